@@ -1,0 +1,10 @@
+pub mod Order
+pub mod Grey
+pub mod FloatLaws
+pub mod Rate
+pub mod Lists
+pub mod Line
+pub mod Picture
+pub mod Plan
+pub mod Step
+pub mod Ring
