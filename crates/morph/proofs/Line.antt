@@ -11,11 +11,11 @@ use native.Mathlib.Omega.{arith}
 use borrow.Author.Tests.{ltb-true, ltb-false, lt-ltb, le-ltb, leb-true, le-leb, not-true}
 use lib.Dec.{leb, ltb}
 use lib.ListN.{length, take, drop, getD, length-append, length-take, length-drop}
-use lib.Seq.{slice, drop-drop, take-suc, drop-append-le, take-all, take-length, getD-drop, getD-take}
+use lib.Seq.{slice, drop-nil, drop-drop, take-suc, drop-append-le, take-all, take-length, getD-drop, getD-take}
 use Rattle.morph.specs.Lists.{all, Each, In}
 use Rattle.morph.specs.Order.{Order}
 use Rattle.morph.specs.Line.{Entry, positioned, windowed, aged, outputAt, Queued, Rising, greater, best, bestAt, filterLine, over, standing, queue, front, falling, passed, unpassed, comparisons, lineCost, lineCosts}
-use Rattle.morph.proofs.Lists.{split, both, length-tabulate, getD-tabulate, all-append, all-take, keep-append, positioned-append, length-positioned, each-positioned, values, values-positioned}
+use Rattle.morph.proofs.Lists.{split, both, length-tabulate, getD-tabulate, all-append, all-take, keep-append, positioned-append, length-positioned, each-positioned, values, values-positioned, each-slice, each-tabulate}
 
 -- ---- at which step an output comes
 
@@ -243,6 +243,10 @@ module _ {A : Type 0} (O : Order A) where
     cut-at′ : (r : ℕ) → s - w ≤ r → r < s → getD (slice (s - w) s xs) (r - (s - w)) (O .blank) ≡ getD xs r (O .blank)
     cut-at′ r h k = let e : s - w + (r - (s - w)) ≡ r = omega arith in rw (getD-drop, e, getD-take s xs r (O .blank) k)
 
+    pub queue-start : s ≡ 0 → queue O w xs s ≡ []
+    unfolding queue
+    queue-start e = rw (e, drop-nil)
+
     pub queue-falls : falling O (queue O w xs s) ≡ true
     unfolding queue
     queue-falls = standing-falls (windowed w xs s)
@@ -335,6 +339,13 @@ module _ {A : Type 0} (O : Order A) where
   best-each P (a ∷ b ∷ l) h e =
       let i = best-each P (b ∷ l) (omega arith) (e .1) in
       split (O .le a (best O (b ∷ l))) (λ p. rw p i) (λ p. rw p (e .0))
+
+  -- and so of each of a filtered line
+  pub line-each : (P : A → Type 0) (back ahead : ℕ) (xs : List A) → Each P xs → Each P (filterLine O back ahead xs)
+  unfolding filterLine bestAt
+  line-each P back ahead xs h =
+      each-tabulate P (length xs) _ (λ x l.
+      best-each P (slice (x - back) (x + ahead + 1) xs) (rw (length-drop, length-take) (omega arith)) (each-slice P (x - back) (x + ahead + 1) xs h))
 
   -- ---- the comparisons of a line
 

@@ -13,18 +13,22 @@ pub record Order (A : Type 0) : Type 0 where
   pub trans : (a b c : A) → le a b ≡ true → le b c ≡ true → le a c ≡ true
   pub blank : A
 
-abbrev pub turned : {A : Type 0} → Order A → Order A
-turned O = record {
-  le = λ a b. O .le b a;
-  total = λ a b. O .total b a;
-  trans = λ a b c p q. O .trans c b a q p;
-  blank = O .blank;
-}
-
 -- Dilation looks for the largest, erosion for the smallest: the largest in the order turned round.
-abbrev pub orderOf : {A : Type 0} → Kind → Order A → Order A
-orderOf Erosion O = turned O
-orderOf Dilation O = O
+module _ {A : Type 0} where
+  abbrev pub leOf : Kind → (A → A → Bool) → A → A → Bool
+  leOf Erosion le a b = le b a
+  leOf Dilation le a b = le a b
+
+  abbrev pub totalOf : (kind : Kind) (O : Order A) (a b : A) → leOf kind (O .le) a b ≡ false → leOf kind (O .le) b a ≡ true
+  totalOf Erosion O a b h = O .total b a h
+  totalOf Dilation O a b h = O .total a b h
+
+  abbrev pub transOf : (kind : Kind) (O : Order A) (a b c : A) → leOf kind (O .le) a b ≡ true → leOf kind (O .le) b c ≡ true → leOf kind (O .le) a c ≡ true
+  transOf Erosion O a b c p q = O .trans c b a q p
+  transOf Dilation O a b c p q = O .trans a b c p q
+
+  abbrev pub orderOf : Kind → Order A → Order A
+  orderOf kind O = record { le = leOf kind (O .le); total = totalOf kind O; trans = transOf kind O; blank = O .blank }
 
 -- How far a window reaches back and ahead, of the extents a (left or up) and b (right or down).
 -- "For erosion across B = a, F = b; for dilation across B = b, F = a; down likewise with c and d."

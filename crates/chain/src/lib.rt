@@ -1,0 +1,18 @@
+// The stages of a plan, chained: a step of the plan goes through them one after another on the memory lent. A stage owns the front of the memory and the rest of the
+// plan the rest of it, so that the stages are a recursion; a row comes out of the last stage when the look-ahead of all of them is done.
+
+ghost use mathlib.Core.Path.{_≡_};
+ghost use Prim.Native.Nat.{_≤_};
+ghost use Rattle.plan.specs.Plan.{Small, cellsOf};
+use plan::Stage;
+
+pub mod grey; // grey.rt: plans over grey bytes
+pub mod rate; // rate.rt: plans over floats
+
+// The cells of one stage.
+fn cells_of(stage: Stage, width: usize) -> usize
+    requires { ⌜ Small stage × (width ≤ 4096) ⌝ }
+    ensures { λ r. ⌜ r ≡ cellsOf width stage ⌝ }
+{
+    width * plan::size_of(stage)
+}

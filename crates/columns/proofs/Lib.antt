@@ -1,0 +1,4 @@
+pub mod Cells
+pub mod Column
+pub mod Columns
+pub mod Records

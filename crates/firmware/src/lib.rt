@@ -1,0 +1,43 @@
+// The one-row filter that the scanner bench's firmware links: a plain C-callable function on numbers and two rows of grey bytes.
+// From C a row is a pointer and then a length. The two rows may not overlap; nothing past either row is read or written.
+
+ghost use mathlib.Core.Path.{_≡_};
+ghost use lib.ListN.{length};
+ghost use Rattle.firmware.specs.Row.{rowNumber, FiltersRow};
+
+// The number of a call, 0 where it is accepted, of rows of these two lengths.
+fn judge(kind: u8, left: u8, right: u8, pixels: usize, places: usize) -> u8
+    ensures { λ r. ⌜ r ≡ rowNumber kind left right pixels places ⌝ }
+{
+    let number = line::judge::start(kind, left, right, pixels);
+    if number != 0 {
+        return number;
+    }
+    if pixels != places {
+        return 7;
+    }
+    0
+}
+
+// Filters the row `input` into the row `output`, and answers 0; or answers the number of a refusal, and writes nothing.
+#[no_mangle]
+pub extern "C" fn kelafshir_filter_row(
+    kind: u8,
+    left: u8,
+    right: u8,
+    input: &[u8],
+    output: &mut [u8],
+) -> u8
+    ensures { λ r. ⌜ FiltersRow kind left right (now (input .entry)) (now (output .entry)) (now (output .exit)) r ⌝ }
+{
+    let number = judge(kind, left, right, input.len(), output.len());
+    if 0 < number {
+        return number;
+    }
+    let which = line::judge::kind_of(kind);
+    let back = line::judge::back(which, left, right);
+    let ahead = line::judge::ahead(which, left, right);
+    sample::grey::copy(input, output);
+    row::grey::across(which, back, ahead, output);
+    0
+}

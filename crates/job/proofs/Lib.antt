@@ -1,0 +1,4 @@
+pub mod Viewing
+pub mod Sections
+pub mod Writing
+pub mod RoundTrip

@@ -1,0 +1,425 @@
+// The job layout: its readers, group by group and whole; the view of a job's rows; and the writer of what stands before the rows.
+ghost use mathlib.Core.Path.{_≡_};
+ghost use mathlib.Core.List.{[], _∷_, _++_};
+ghost use Prim.Native.Nat.{_+_, _-_, _*_, _/_, _%_, _≤_, _<_};
+ghost use lib.Dec.{leb};
+ghost use lib.ListN.{length, getD, drop, replicate};
+ghost use lib.Seq.{sets};
+ghost use Rattle.plan.specs.Plan.{used};
+ghost use Rattle.job.specs.Layout.{kindByte, stageBytes, stagesBytes, headBytes, sampleBytes, lowHigh, headAt};
+ghost use Rattle.job.specs.Job.{planSection, sizeNumber, headNumber, headAnswered, headSectionNumber, rowsNumber, noJob, jobRead};
+ghost use Rattle.job.specs.View.{thereTo, viewNumber, viewed};
+ghost use Rattle.job.specs.Write.{Wrote};
+use morph::Kind;
+use plan::Plan;
+use plan::Reading;
+use plan::Stage;
+
+// A job that was read: its plan, its image head, and where its rows begin.
+pub struct Job {
+    pub plan: Plan,
+    pub sample: u8,
+    pub width: usize,
+    pub rows: usize,
+    pub at: usize,
+}
+
+// What reading an image head gives: 0 and its fields, or a refusal's number and zeros.
+pub struct Head {
+    pub number: u8,
+    pub sample: u8,
+    pub width: usize,
+    pub rows: usize,
+}
+
+// What reading a whole job gives: 0 and the job, or a refusal's number and all zeros.
+pub struct JobRead {
+    pub number: u8,
+    pub job: Job,
+}
+
+// The bytes that were written, or a refusal's number.
+pub enum Written {
+    Bytes(usize),
+    Refused(u8),
+}
+
+fn wide(x: u8) -> usize
+    ensures { λ r. ⌜ (r ≡ x) × (r < 256) ⌝ }
+{
+    x as usize
+}
+
+// The number of two bytes, the low one first.
+fn low_high(low: u8, high: u8) -> usize
+    ensures { λ r. ⌜ (r ≡ lowHigh low high) × (r ≤ 65535) ⌝ }
+{
+    wide(low) + wide(high) * 256
+}
+
+// The bytes of one sample of a known kind.
+pub fn sample_bytes(sample: u8) -> usize
+    ensures { λ r. ⌜ (r ≡ sampleBytes sample) × (1 ≤ r) × (r ≤ 4) ⌝ }
+{
+    if sample == 0 {
+        return 1;
+    }
+    4
+}
+
+// ---- the plan section
+
+fn zeros() -> [u8; 80]
+    ensures { λ r. ⌜ r ≡ replicate 80 0 ⌝ }
+{
+    [0; 80]
+}
+
+// The bytes at the front of as many as 16 stages take, zeros after them.
+fn padded(part: &[u8]) -> [u8; 80]
+    requires { ⌜ length (now part) ≤ 80 ⌝ }
+    ensures { λ r. ⌜ r ≡ now (part .entry) ++ replicate (80 - length (now (part .entry))) 0 ⌝ }
+{
+    let n = part.len();
+    let mut whole = zeros();
+    let mut i = 0;
+    while i < n {
+        whole[i] = part[i];
+        i += 1;
+    }
+    whole
+}
+
+// The plan section that the bytes open with. Refused 13 without a count; 1; 13 without all stages; stage by stage 2, 3.
+pub fn plan_section(bytes: &[u8]) -> Reading
+    ensures { λ r. ⌜ r ≡ planSection (now (bytes .entry)) ⌝ }
+{
+    if bytes.len() < 1 {
+        return plan::refused(13);
+    }
+    let count = bytes[0];
+    let n = wide(count);
+    let number = plan::judge_count(n);
+    if number != 0 {
+        return plan::refused(number);
+    }
+    let end = 1 + n * 5;
+    if bytes.len() < end {
+        return plan::refused(13);
+    }
+    let stages = padded(&bytes[1..end]);
+    plan::read(count, &stages)
+}
+
+// ---- the image head
+
+// 0, or 4.
+pub fn judge_size(width: usize, rows: usize) -> u8
+    ensures { λ r. ⌜ r ≡ sizeNumber width rows ⌝ }
+{
+    if width == 0 {
+        return 4;
+    }
+    if 4096 < width {
+        return 4;
+    }
+    if rows == 0 {
+        return 4;
+    }
+    if 65535 < rows {
+        return 4;
+    }
+    0
+}
+
+fn refused_head(number: u8) -> Head
+    ensures { λ r. ⌜ r ≡ record { number = number; sample = 0; width = 0; rows = 0 } ⌝ }
+{
+    Head {
+        number: number,
+        sample: 0,
+        width: 0,
+        rows: 0,
+    }
+}
+
+// The image head of five bytes. Refused 5, 4.
+pub fn read_head(bytes: &[u8; 5]) -> Head
+    ensures { λ r. ⌜ r ≡ headAnswered (headNumber (now (bytes .entry))) (now (bytes .entry)) ⌝ }
+{
+    let sample = bytes[0];
+    if 1 < sample {
+        return refused_head(5);
+    }
+    let width = low_high(bytes[1], bytes[2]);
+    let rows = low_high(bytes[3], bytes[4]);
+    let number = judge_size(width, rows);
+    if number != 0 {
+        return refused_head(number);
+    }
+    Head {
+        number: 0,
+        sample: sample,
+        width: width,
+        rows: rows,
+    }
+}
+
+fn five(bytes: &[u8], at: usize) -> [u8; 5]
+    requires { ⌜ at + 5 ≤ length (now bytes) ⌝ }
+    ensures { λ r. ⌜ r ≡ getD (now (bytes .entry)) at 0 ∷ getD (now (bytes .entry)) (at + 1) 0 ∷ getD (now (bytes .entry)) (at + 2) 0 ∷ getD (now (bytes .entry)) (at + 3) 0 ∷ getD (now (bytes .entry)) (at + 4) 0 ∷ [] ⌝ }
+{
+    [
+        bytes[at],
+        bytes[at + 1],
+        bytes[at + 2],
+        bytes[at + 3],
+        bytes[at + 4],
+    ]
+}
+
+// The image head that stands at `at`. Refused 13, 5, 4.
+fn head_section(bytes: &[u8], at: usize) -> Head
+    requires { ⌜ at ≤ length (now bytes) ⌝ }
+    ensures { λ r. ⌜ r ≡ headAnswered (headSectionNumber (now (bytes .entry)) at) (drop at (now (bytes .entry))) ⌝ }
+{
+    if bytes.len() - at < 5 {
+        return refused_head(13);
+    }
+    let head = five(bytes, at);
+    read_head(&head)
+}
+
+// ---- the whole job
+
+// 13 where the rows are not all there, 14 where bytes follow them, else 0.
+fn judge_length(bytes: &[u8], job: Job) -> u8
+    requires { ⌜ (job .at ≤ length (now bytes)) × (job .width ≤ 4096) × (job .rows ≤ 65535) ⌝ }
+    ensures { λ r. ⌜ r ≡ rowsNumber (now (bytes .entry)) job ⌝ }
+{
+    let need = job.rows * (job.width * sample_bytes(job.sample));
+    let there = bytes.len() - job.at;
+    if there < need {
+        return 13;
+    }
+    if need < there {
+        return 14;
+    }
+    0
+}
+
+fn refused(number: u8) -> JobRead
+    ensures { λ r. ⌜ r ≡ record { number = number; job = noJob } ⌝ }
+{
+    let none = Job {
+        plan: plan::empty(),
+        sample: 0,
+        width: 0,
+        rows: 0,
+        at: 0,
+    };
+    JobRead {
+        number: number,
+        job: none,
+    }
+}
+
+// A whole lent job: its plan section, its image head, and then exactly its rows.
+pub fn read(bytes: &[u8]) -> JobRead
+    ensures { λ r. ⌜ r ≡ jobRead (now (bytes .entry)) ⌝ }
+{
+    let section = plan_section(bytes);
+    if section.number != 0 {
+        return refused(section.number);
+    }
+    let plan = section.plan;
+    let end = 1 + plan.count * 5;
+    let head = head_section(bytes, end);
+    if head.number != 0 {
+        return refused(head.number);
+    }
+    let job = Job {
+        plan: plan,
+        sample: head.sample,
+        width: head.width,
+        rows: head.rows,
+        at: end + 5,
+    };
+    let number = judge_length(bytes, job);
+    if number != 0 {
+        return refused(number);
+    }
+    JobRead {
+        number: 0,
+        job: job,
+    }
+}
+
+// ---- the view of rows
+
+// Whether `count` things of that size fit the room. The product may be past any number, so it is not made.
+fn fits(count: usize, size: usize, room: usize) -> bool
+    ensures { λ r. ⌜ r ≡ leb (count * size) room ⌝ }
+{
+    if size == 0 {
+        return true;
+    }
+    count <= room / size
+}
+
+// Whether the rows before row j are wholly in the bytes.
+fn there_to(bytes: &[u8], job: Job, j: usize) -> bool
+    ensures { λ r. ⌜ r ≡ thereTo (now (bytes .entry)) job j ⌝ }
+{
+    let at = job.at;
+    let width = job.width;
+    if 1 < job.sample {
+        return false;
+    }
+    if bytes.len() < at {
+        return false;
+    }
+    let room = bytes.len() - at;
+    if fits(j, width, room) {
+        return fits(j * width, sample_bytes(job.sample), room);
+    }
+    false
+}
+
+// Whether rows i up to, not including, j can be shown: 0, or 11.
+pub fn judge_rows(bytes: &[u8], job: Job, i: usize, j: usize) -> u8
+    ensures { λ r. ⌜ r ≡ viewNumber (now (bytes .entry)) job i j ⌝ }
+{
+    if j < i {
+        return 11;
+    }
+    if job.rows < j {
+        return 11;
+    }
+    if i == j {
+        return 0;
+    }
+    if there_to(bytes, job, j) {
+        return 0;
+    }
+    11
+}
+
+// Rows i up to, not including, j, as the part of the lent bytes that they are; empty where they cannot be shown.
+pub fn rows(bytes: &[u8], job: Job, i: usize, j: usize) -> &[u8]
+    ensures { λ r. ⌜ now r ≡ viewed (now (bytes .entry)) job i j ⌝ }
+{
+    if judge_rows(bytes, job, i, j) != 0 {
+        return &bytes[0..0];
+    }
+    if i == j {
+        return &bytes[0..0];
+    }
+    let at = job.at;
+    let size = job.width * sample_bytes(job.sample);
+    let start = at + i * size;
+    let end = at + j * size;
+    &bytes[start..end]
+}
+
+// ---- writing
+
+fn kind_byte(kind: Kind) -> u8
+    ensures { λ r. ⌜ r ≡ kindByte kind ⌝ }
+{
+    match kind {
+        Kind::Erosion => 0,
+        Kind::Dilation => 1,
+    }
+}
+
+fn byte(x: usize) -> u8
+    requires { ⌜ x < 256 ⌝ }
+    ensures { λ r. ⌜ r ≡ x ⌝ }
+{
+    x as u8
+}
+
+// Five bytes from `at` on.
+fn write_five(out: &mut [u8], at: usize, a: u8, b: u8, c: u8, d: u8, e: u8)
+    requires { ⌜ at + 5 ≤ length (now out) ⌝ }
+    ensures { λ _. ⌜ now (out .exit) ≡ sets (now (out .entry)) at (a ∷ b ∷ c ∷ d ∷ e ∷ []) ⌝ }
+{
+    out[at] = a;
+    out[at + 1] = b;
+    out[at + 2] = c;
+    out[at + 3] = d;
+    out[at + 4] = e;
+}
+
+fn write_stage(stage: Stage, out: &mut [u8], at: usize)
+    requires { ⌜ at + 5 ≤ length (now out) ⌝ }
+    ensures { λ _. ⌜ now (out .exit) ≡ sets (now (out .entry)) at (stageBytes stage) ⌝ }
+{
+    let kind = stage.kind;
+    write_five(
+        out,
+        at,
+        kind_byte(kind),
+        stage.left,
+        stage.right,
+        stage.up,
+        stage.down,
+    );
+}
+
+// The plan's stages, after the count's byte.
+fn write_stages(plan: Plan, out: &mut [u8])
+    requires { ⌜ (plan .count ≤ 16) × (headAt (plan .count) ≤ length (now out)) ⌝ }
+    ensures { λ _. ⌜ now (out .exit) ≡ sets (now (out .entry)) 1 (stagesBytes (used plan)) ⌝ }
+{
+    let count = plan.count;
+    let mut i = 0;
+    while i < count {
+        let stage = plan.stages[i];
+        write_stage(stage, out, 1 + i * 5);
+        i += 1;
+    }
+}
+
+fn write_image(sample: u8, width: usize, rows: usize, out: &mut [u8], at: usize)
+    requires { ⌜ (width ≤ 65535) × (rows ≤ 65535) × (at + 5 ≤ length (now out)) ⌝ }
+    ensures { λ _. ⌜ now (out .exit) ≡ sets (now (out .entry)) at (headBytes sample width rows) ⌝ }
+{
+    write_five(
+        out,
+        at,
+        sample,
+        byte(width % 256),
+        byte(width / 256),
+        byte(rows % 256),
+        byte(rows / 256),
+    );
+}
+
+// What stands before the job's rows, at the front of the output. Refused 1; stage by stage 3; 5; 4; 6 for too short an output.
+pub fn write_head(job: Job, out: &mut [u8]) -> Written
+    ensures { λ r. ⌜ Wrote job (now (out .entry)) (now (out .exit)) r ⌝ }
+{
+    let plan = job.plan;
+    let number = plan::judge(plan);
+    if number != 0 {
+        return Written::Refused(number);
+    }
+    if 1 < job.sample {
+        return Written::Refused(5);
+    }
+    let number = judge_size(job.width, job.rows);
+    if number != 0 {
+        return Written::Refused(number);
+    }
+    let count = plan.count;
+    let at = 1 + count * 5;
+    if out.len() < at + 5 {
+        return Written::Refused(6);
+    }
+    out[0] = byte(count);
+    write_stages(plan, out);
+    write_image(job.sample, job.width, job.rows, out, at);
+    Written::Bytes(at + 5)
+}

@@ -1,0 +1,4 @@
+pub mod Numbers
+pub mod Steps
+pub mod Unique
+pub mod Runs

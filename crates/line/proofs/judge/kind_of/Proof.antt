@@ -1,0 +1,17 @@
+-- `kind_of` meets its contract, by the number.
+use mathlib.Core.Path.{refl}
+use Rattle.line.proofs.Numbers.{kind-dilation}
+use borrow.Author.Needs.{needs}
+use Rattle.line.proofs.judge.kind_of.Statement.{statement}
+use Rattle.line.proofs.judge.kind_of.Tie as tie
+use Rattle.line.proofs.judge.kind_of.Reads as reads
+use Rattle.line.proofs.judge.kind_of.Lts as lts
+
+returns : tie.Need-returns
+returns c = search needs
+
+returns-2 : tie.Need-returns-2
+returns-2 c = kind-dilation _ (c .if1 .left)
+
+pub kind-of-spec : {M : Type 1} → statement M
+kind-of-spec = tie.close (tie.spec returns returns-2)

@@ -1,0 +1,18 @@
+-- `pixels_off` meets its contract, by the test that led to each end.
+use borrow.Author.Tests.{eq-eqb, ne-eqb}
+use Rattle.line.specs.Numbers.{pixelsOff}
+use Rattle.line.proofs.judge.pixels_off.Statement.{statement}
+use Rattle.line.proofs.judge.pixels_off.Tie as tie
+use Rattle.line.proofs.judge.pixels_off.Reads as reads
+use Rattle.line.proofs.judge.pixels_off.Lts as lts
+
+returns : tie.Need-returns
+unfolding pixelsOff
+returns c = simp (eq-eqb _ _ (c .if1 .taken))
+
+returns-2 : tie.Need-returns-2
+unfolding pixelsOff
+returns-2 c = simp (ne-eqb _ _ (c .if1 .left))
+
+pub pixels-off-spec : {M : Type 1} → statement M
+pixels-off-spec = tie.close (tie.spec returns returns-2)

@@ -1,0 +1,28 @@
+-- `read_out` meets its contract, by the tests that led to each end.
+use mathlib.Core.Path.{sym, _∙_}
+use borrow.Author.Tests.{le-leb, lt-leb}
+use Rattle.line.specs.Numbers.{readOutNumber}
+use borrow.Author.Needs.{needs}
+use Rattle.line.proofs.judge.read_out.Statement.{statement}
+use Rattle.line.proofs.judge.read_out.Tie as tie
+use Rattle.line.proofs.judge.read_out.Reads as reads
+use Rattle.line.proofs.judge.read_out.Lts as lts
+use Rattle.line.proofs.judge.broken.Reads as broken-reads
+
+broken-requires : tie.Need-broken-requires
+broken-requires c κs = search needs
+
+returns : tie.Need-returns
+unfolding readOutNumber
+returns c = simp (sym (c .before .broken .ensures) ∙ c .if1 .taken)
+
+returns-2 : tie.Need-returns-2
+unfolding readOutNumber
+returns-2 c = simp (sym (c .before .before .broken .ensures) ∙ c .before .if1 .left, le-leb _ _ (c .if2 .taken))
+
+returns-3 : tie.Need-returns-3
+unfolding readOutNumber
+returns-3 c = simp (sym (c .before .before .broken .ensures) ∙ c .before .if1 .left, lt-leb _ _ (c .if2 .left))
+
+pub read-out-spec : {M : Type 1} → statement M
+read-out-spec = tie.close (tie.spec broken-requires returns returns-2 returns-3)

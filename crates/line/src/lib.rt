@@ -1,0 +1,7 @@
+// The line filter, one dimension, step by step: `start`, `read`, `drain`, and `read_out` of its queue.
+// A line of N pixels takes N steps that read and F that drain, F being how far its window reaches ahead; output x comes at step x + F.
+// No call asks anything of its caller: what it cannot do it refuses, with a number, and hands the line back as it was given.
+
+pub mod grey; // grey.rt: lines of grey bytes
+pub mod judge; // judge.rt: which calls are refused, on plain numbers
+pub mod rate; // rate.rt: lines of floats

@@ -1,0 +1,181 @@
+-- The laws that the queue's code cites, over any element.
+use mathlib.Core.Path.{_≡_, refl, sym, ap, _∙_, subst}
+use mathlib.Core.Bool.{Bool, true, false, cond}
+use mathlib.Core.List.{List, [], _∷_, _++_}
+use mathlib.Core.Logic.{_≢_}
+use Prim.Native.Nat.{ℕ, zero, suc, _+_, _-_, _≤_, _<_, min}
+use native.Mathlib.Nat.{add-zero, sub-zero}
+use native.Mathlib.Numerals.{add-one}
+use native.Mathlib.Omega.{arith}
+use borrow.Author.Tests.{leb-true, leb-false, eqb-true, eqb-false, lt-ltb, le-ltb, ne-eqb}
+use lib.Dec.{leb, eqb}
+use lib.ListN.{length, take, drop, getD, set, length-set}
+use lib.Seq.{getD-set-same, getD-set-other}
+use Rattle.morph.specs.Order.{Order}
+use Rattle.morph.specs.Line.{Entry, front}
+use Rattle.morph.specs.Step.{popped, roomed, stepped, stepCost}
+use Rattle.morph.specs.Ring.{wrap, ring, cellAt, entries}
+use Rattle.morph.proofs.Lists.{split}
+use Rattle.morph.proofs.Step.{Popping, pop-start, pop-more, pop-stop, pop-end}
+use Rattle.morph.proofs.Ring.{wrap-low, ring-length, ring-at, ring-take, ring-drop, ring-push}
+use Rattle.morph.specs.declared.Kind.{Kind}
+use Rattle.sample.specs.Samples.{Samples}
+use Rattle.queue.specs.Queue.{goesOf, listed, Roomed, Pushed}
+use Rattle.queue.specs.declared.Room.{Room}
+
+ruleset tests = (arith, leb-true, leb-false, eqb-true, eqb-false)
+
+-- at most one goes, there is one where one goes, and then there is room
+pub goes-few : (w t count position : ℕ) → 0 < w → count ≤ w → (goesOf w t count position ≤ 1) × (goesOf w t count position ≤ count) × (count - goesOf w t count position < w)
+unfolding goesOf
+goes-few w t count position h k =
+    split (eqb count 0)
+    (λ a. rw a (omega tests, omega tests, omega tests))
+    (λ a. split (leb w count)
+    (λ b. rw (a, b) (omega tests, omega tests, omega tests))
+    (λ b. split (leb (position + w) t) (λ d. rw (a, b, d) (omega tests, omega tests, omega tests)) (λ d. rw (a, b, d) (omega tests, omega tests, omega tests))))
+
+module _ {A : Type 0} where
+  pub goes-roomed : (w t : ℕ) (q : List (Entry A)) (d : Entry A) → drop (goesOf w t (length q) ((getD q 0 d) .position)) q ≡ roomed w t q
+  unfolding goesOf roomed
+  goes-roomed w t [] d = split (leb w 0) (λ a. rw a) (λ a. rw a)
+  goes-roomed w t (e ∷ q) d =
+      let z = ne-eqb (suc (length q)) 0 (λ h. omega arith) in
+      split (leb w (suc (length q)))
+      (λ a. rw (z, a))
+      (λ a. split (leb (e .position + w) t)
+      (λ b. rw (z, a, b, lt-ltb (e .position) (suc t - w) (omega tests)))
+      (λ b. rw (z, a, b, le-ltb (e .position) (suc t - w) (omega tests))))
+
+  module _ (blank : A) (n : ℕ) (vs : List A) (ps : List ℕ) where
+    pub listed-length : (start count : ℕ) → length (entries blank n start count vs ps) ≡ count
+    unfolding entries
+    listed-length start count = ring-length n start _ count
+
+    pub listed-at : (start count i k : ℕ) (d : Entry A) → i < count → wrap n (start + i) ≡ k → getD (entries blank n start count vs ps) i d ≡ cellAt blank vs ps k
+    unfolding entries
+    listed-at start count i k d h w = ring-at n start _ count i d h ∙ ap (cellAt blank vs ps) w
+
+    pub listed-none : (start : ℕ) → entries blank n start 0 vs ps ≡ []
+    unfolding entries ring
+    listed-none start = refl
+
+    -- the oldest stands at the start
+    pub listed-front : (O : Order A) (start count : ℕ) → start < n → 0 < count → front O (entries blank n start count vs ps) ≡ getD vs start blank
+    unfolding entries ring
+    listed-front O start zero h k = absurd (omega arith)
+    listed-front O start (suc count) h k = ap (λ j. getD vs j blank) (ap (wrap n) (add-zero start) ∙ wrap-low n start h)
+
+    listed-drop : (start count gone : ℕ) → start < n → count ≤ n → gone ≤ 1 → gone ≤ count → entries blank n (wrap n (start + gone)) (count - gone) vs ps ≡ drop gone (entries blank n start count vs ps)
+    unfolding entries
+    listed-drop start count zero h k g m = rw (add-zero, wrap-low n start h, sub-zero)
+    listed-drop start zero (suc gone) h k g m = absurd (omega arith)
+    listed-drop start (suc count) (suc gone) h k g m =
+        let z : gone ≡ 0 = omega arith in let o : suc count - 1 ≡ count = omega arith in rw (z, o) (sym (ring-drop n start (cellAt blank vs ps) count h k))
+
+    listed-take : (start count kept : ℕ) → kept ≤ count → take kept (entries blank n start count vs ps) ≡ entries blank n start kept vs ps
+    unfolding entries
+    listed-take start count kept i = ring-take n start (cellAt blank vs ps) count kept i
+
+    first-position : (start count : ℕ) → start < n → (getD (entries blank n start count vs ps) 0 (record { value = blank; position = getD ps start 0 })) .position ≡ getD ps start 0
+    unfolding entries ring
+    first-position start zero h = refl
+    first-position start (suc count) h = ap (λ j. getD ps j 0) (ap (wrap n) (add-zero start) ∙ wrap-low n start h)
+
+    -- the oldest goes if it is too old
+    pub listed-ages : (w t start count gone : ℕ) → start < n → 0 < w → count ≤ w → w ≤ n → gone ≡ goesOf w t count (getD ps start 0)
+        → entries blank n (wrap n (start + gone)) (count - gone) vs ps ≡ roomed w t (entries blank n start count vs ps)
+    listed-ages w t start count gone h z k l e =
+        let q = entries blank n start count vs ps in
+        let d : Entry A = record { value = blank; position = getD ps start 0 } in
+        let (a, b, _) = goes-few w t count (getD ps start 0) z k in
+        let f : gone ≡ goesOf w t (length q) ((getD q 0 d) .position) = rw (listed-length, first-position start count h) e in
+        listed-drop start count gone h (omega arith) (omega arith) (omega arith) ∙ ap (λ g. drop g q) f ∙ goes-roomed w t q d
+
+    -- what a step leaves before it pushes: p are popped, then `gone` of the oldest go
+    pub listed-stays : (w t start count p gone : ℕ) → start < n → 0 < w → count ≤ w → w ≤ n → p ≤ count → gone ≡ goesOf w t (count - p) (getD ps start 0)
+        → entries blank n (wrap n (start + gone)) (count - p - gone) vs ps ≡ roomed w t (take (count - p) (entries blank n start count vs ps))
+    listed-stays w t start count p gone h z k l m e =
+        listed-ages w t start (count - p) gone h z (omega arith) l e ∙ ap (roomed w t) (sym (listed-take start count (count - p) (omega arith)))
+
+    -- one more at the place behind the last
+    pub listed-push : (start count at : ℕ) (v : A) (t : ℕ) → start < n → count < n → n ≤ length vs → n ≤ length ps → at ≡ wrap n (start + count) → at < n
+        → entries blank n start (count + 1) (set vs at v) (set ps at t) ≡ entries blank n start count vs ps ++ (record { value = v; position = t } ∷ [])
+    unfolding entries
+    listed-push start count at v t h k l m e i =
+        let other = cellAt blank (set vs at v) (set ps at t) in
+        let p = ring-push n start (cellAt blank vs ps) other count h k (λ j a b. let b′ : j ≢ at = rw e b in rw (getD-set-other vs at j v blank b′, getD-set-other ps at j t 0 b′)) in
+        let f : other at ≡ record { value = v; position = t } = rw (getD-set-same vs at v blank (omega arith), getD-set-same ps at t 0 (omega arith)) in
+        rw add-one (p ∙ ap (λ r. ring n start count (cellAt blank vs ps) ++ (r ∷ [])) (ap other (sym e) ∙ f))
+
+  -- ---- the popping loop, which reads values alone: p entries are gone, whatever the positions are
+
+  module _ (f : A → Bool) (blank : A) (n start count : ℕ) (vs : List A) where
+    unfoldable pub Gone : ℕ → Type 0
+    Gone p = (ps : List ℕ) → Popping f (entries blank n start count vs ps) (count - p) p
+
+    pub gone-start : Gone 0
+    unfolding Gone
+    gone-start ps = rw sub-zero (subst (λ m. Popping f (entries blank n start count vs ps) m 0) (listed-length blank n vs ps start count) (pop-start f (entries blank n start count vs ps)))
+
+    pub gone-end : (p : ℕ) → count ≤ p → Gone p → (ps : List ℕ) → p ≡ popped f (entries blank n start count vs ps)
+    unfolding Gone
+    gone-end p h g ps = let z : count - p ≡ 0 = omega arith in sym (pop-end f (entries blank n start count vs ps) p (rw z at (g ps)))
+
+    -- i is the place of the last that is left
+    module _ (p i : ℕ) (h : p < count) (e : i ≡ wrap n (start + (count - 1 - p))) (g : Gone p) where
+      last-value : (ps : List ℕ) → (getD (entries blank n start count vs ps) (count - 1 - p) (cellAt blank vs ps i)) .value ≡ getD vs i blank
+      last-value ps = ap (λ r. r .value) (listed-at blank n vs ps start count (count - 1 - p) i (cellAt blank vs ps i) (omega arith) (sym e))
+
+      pub gone-more : f (getD vs i blank) ≡ true → Gone (p + 1)
+      unfolding Gone
+      gone-more t ps =
+          let m : count - (p + 1) ≡ count - 1 - p = omega arith in
+          rw m (pop-more f (entries blank n start count vs ps) (count - p) (count - 1 - p) p (cellAt blank vs ps i) (omega arith) (g ps) (ap f (last-value ps) ∙ t))
+
+      pub gone-stop : f (getD vs i blank) ≡ false → (ps : List ℕ) → p ≡ popped f (entries blank n start count vs ps)
+      unfolding Gone
+      gone-stop t ps = sym (pop-stop f (entries blank n start count vs ps) (count - p) (count - 1 - p) p (cellAt blank vs ps i) (omega arith) (g ps) (ap f (last-value ps) ∙ t))
+
+-- ---- room for one more, from what the code finds on the way
+
+pub room-found : {A : Type 0} (K : Samples A) (kind : Kind) (w t : ℕ) (v : A) (vs : List A) (ps : List ℕ) (start count p gone first at more : ℕ)
+    → start < length vs → 0 < w → count ≤ w → w ≤ length vs → p ≡ popped (K .passes kind v) (listed K vs ps start count) → p ≤ count
+    → gone ≡ goesOf w t (count - p) (getD ps start 0) → first ≡ wrap (length vs) (start + gone) → first < length vs
+    → at ≡ wrap (length vs) (first + (count - p - gone)) → at < length vs → more ≡ min 1 (count - p)
+    → Roomed K kind w t v vs ps start count (record { start = first; count = count - p - gone; at = at; comparisons = p + more })
+unfolding stepCost
+room-found K kind w t v vs ps start count p gone first at more a z b c e h g f i k m o =
+    let (_, _, few) = goes-few w t (count - p) (getD ps start 0) z (omega arith) in
+    record {
+      below = i;
+      fits = omega arith;
+      behind = k;
+      inside = m;
+      stays = rw (f, ← e) (listed-stays (K .order .blank) (length vs) vs ps w t start count p gone a z b c h g);
+      counted = rw (listed-length, ← e, o);
+      few = omega arith;
+    }
+
+-- storing the new entry at the room's place makes the next queue
+pub room-stored : {A : Type 0} (K : Samples A) (kind : Kind) (w t : ℕ) (v : A) (vs : List A) (ps : List ℕ) (start count : ℕ) (r : Room) → Roomed K kind w t v vs ps start count r
+    → w ≤ length vs → length ps ≡ length vs
+    → listed K (set vs (r .at) v) (set ps (r .at) t) (r .start) (r .count + 1) ≡ stepped (K .passes kind v) w t v (listed K vs ps start count)
+unfolding stepped
+room-stored K kind w t v vs ps start count r h l e =
+    let z : length (set vs (r .at) v) ≡ length vs = simp length-set in
+    rw (z, listed-push (K .order .blank) (length vs) vs ps (r .start) (r .count) (r .at) v t (h .below) (omega (arith, h .fits)) (omega arith) (omega arith) (h .behind) (h .inside))
+    (rw listed-length (ap (λ q. q ++ (record { value = v; position = t } ∷ [])) (h .stays)))
+
+pub room-pushed : {A : Type 0} (K : Samples A) (kind : Kind) (t : ℕ) (v : A) (vs : List A) (ps : List ℕ) (start count : ℕ) (r : Room) → Roomed K kind (length vs) t v vs ps start count r
+    → length ps ≡ length vs
+    → Pushed K kind t v vs ps start count (set vs (r .at) v) (set ps (r .at) t) (record { start = r .start; count = r .count + 1; comparisons = r .comparisons })
+room-pushed K kind t v vs ps start count r h e = record {
+  below = h .below;
+  fits = omega (arith, h .fits);
+  values-long = simp length-set;
+  positions-long = simp length-set;
+  next = room-stored K kind (length vs) t v vs ps start count r h (omega arith) e;
+  counted = h .counted;
+  few = h .few;
+}

@@ -1,0 +1,67 @@
+// A queue in a ring of places, on slices: rows and columns share it. Entry i stands at the place start + i, past the end from the start again.
+// A step pops from the tail what the new value equals or passes, lets the oldest go if it is too old, and pushes: each entry is pushed once and goes once,
+// so a step costs the same whatever the window.
+
+ghost use mathlib.Core.Path.{_≡_};
+ghost use Prim.Native.Nat.{_+_, _-_, _≤_, _<_, min};
+ghost use lib.ListN.{length, getD};
+ghost use Rattle.morph.specs.Ring.{wrap};
+ghost use Rattle.queue.specs.Queue.{goesOf};
+
+pub mod grey; // grey.rt: queues of grey bytes
+pub mod rate; // rate.rt: queues of floats
+
+// Where a new entry goes, what stays before it, and the comparisons made.
+pub struct Room {
+    pub start: usize,
+    pub count: usize,
+    pub at: usize,
+    pub comparisons: usize,
+}
+
+// Where a queue starts and how many entries it has after a step, and the comparisons made.
+pub struct Ends {
+    pub start: usize,
+    pub count: usize,
+    pub comparisons: usize,
+}
+
+// The place of entry k.
+pub fn slot(start: usize, k: usize, places: usize) -> usize
+    requires { ⌜ (start < places) × (k ≤ places) × (places ≤ 63) ⌝ }
+    ensures { λ r. ⌜ (r ≡ wrap places (start + k)) × (r < places) ⌝ }
+{
+    let i = start + k;
+    if i < places { i } else { i - places }
+}
+
+// A position as a number to reckon with.
+pub fn wide(x: u16) -> usize
+    ensures { λ r. ⌜ (r ≡ x) × (r < 65536) ⌝ }
+{
+    x as usize
+}
+
+// How many of the oldest entries go at step t, none or one, so that there is room for one more.
+pub fn goes(positions: &[u16], start: usize, count: usize, window: usize, t: usize) -> usize
+    requires { ⌜ (start < length (now positions)) × (0 < window) × (window ≤ 63) × (count ≤ window) ⌝ }
+    ensures { λ r. ⌜ (r ≡ goesOf window t count (getD (now (positions .entry)) start 0)) × (r ≤ 1) × (r ≤ count) × (count - r < window) ⌝ }
+{
+    if count == 0 {
+        return 0;
+    }
+    if window <= count {
+        return 1;
+    }
+    if wide(positions[start]) + window <= t {
+        return 1;
+    }
+    0
+}
+
+// 1 if there is any.
+pub fn any(n: usize) -> usize
+    ensures { λ r. ⌜ r ≡ min 1 n ⌝ }
+{
+    if 0 < n { 1 } else { 0 }
+}

@@ -1,0 +1,17 @@
+// A whole row filtered in place (`across`), and the queue of 63 places that it and a line's steps keep (`RowQueue`).
+// The method keeps a queue of the values that can still be an answer; a row of N pixels takes at most 2N - 2 comparisons, whatever the window.
+// At the edges the window is cut: positions off the row take no part.
+
+ghost use mathlib.Core.Path.{_≡_};
+ghost use Prim.Native.Nat.{_<_};
+
+pub mod grey; // grey.rt: rows of grey bytes
+pub mod rate; // rate.rt: rows of floats
+
+// A step as a position.
+pub fn position(t: usize) -> u16
+    requires { ⌜ t < 65536 ⌝ }
+    ensures { λ r. ⌜ r ≡ t ⌝ }
+{
+    t as u16
+}

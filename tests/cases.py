@@ -1,0 +1,59 @@
+"""Document 01's cases that the program can show: a name, a job, and the answer that document 01 gives it."""
+import struct
+
+from definition import DILATION, EROSION, GREY
+
+
+def head(rows):
+    return struct.pack('<BHH', GREY, len(rows[0]), len(rows))
+
+
+def job(plan, rows):
+    """The job of these stages over these grey rows."""
+    return bytes([len(plan)]) + b''.join(map(bytes, plan)) + head(rows) + b''.join(map(bytes, rows))
+
+
+def full_run(rows):
+    """The answer of a full run that gives these rows."""
+    return b'\2' + head(rows) + b''.join(b'\1' + bytes(row) for row in rows) + b'\0\0'
+
+
+def cases():
+    def line(name, kinds, left, right, row, out):
+        return name, job([(kind, left, right, 0, 0) for kind in kinds], [row]), full_run([out])
+
+    def square(name, kinds, value):
+        return name, job([(kind, 1, 1, 1, 1) for kind in kinds], [bytes(3), b'\0\11\0', bytes(3)]), full_run([[value] * 3] * 3)
+
+    def zeros(name, plan, width, number):
+        """A row of zeros, and its answer: a full run, or a refusal of the head."""
+        row = bytes(width)
+        return name, job(plan, [row]), bytes([0, number]) if number else full_run([row])
+
+    p = [3, 1, 4, 1, 5, 9, 2, 6]
+    opening, closing = [EROSION, DILATION], [DILATION, EROSION]
+    high = [(EROSION, 0, 0, 31, 31)] * 3
+    yield 'whole case', bytes.fromhex('01010100000000030001 00050207'), bytes.fromhex('020003000100010507070000')
+    yield line('1', [EROSION], 1, 2, p, [1, 1, 1, 1, 1, 2, 2, 2])
+    yield line('2', [DILATION], 1, 2, p, [3, 4, 4, 5, 9, 9, 9, 9])
+    yield line('3', opening, 1, 2, p, [1, 1, 1, 1, 2, 2, 2, 2])
+    yield line('4', closing, 1, 2, p, [3, 3, 4, 4, 5, 9, 9, 9])
+    yield line('7', [DILATION], 0, 1, [4, 3, 2, 1], [4, 4, 3, 2])
+    yield line('8', [DILATION], 1, 1, [7, 7, 7], [7, 7, 7])
+    yield '9', job([(DILATION, 31, 31, 31, 31)], [b'\5']), full_run([[5]])
+    yield square('10 dilated', [DILATION], 9)
+    yield square('10 eroded', [EROSION], 0)
+    yield square('10 opened', opening, 0)
+    yield square('10 closed', closing, 9)
+    for place in range(1, 5):
+        for extent, number in (31, 0), (32, 3):
+            stage = [EROSION, 0, 0, 0, 0]
+            stage[place] = extent
+            yield zeros('11 extent %d at %d' % (extent, place), [stage], 3, number)
+    yield zeros('11 width 4,096', [(EROSION, 1, 1, 0, 0)], 4096, 0)
+    yield zeros('11 width 4,097', [(EROSION, 1, 1, 0, 0)], 4097, 4)
+    yield zeros('11 16 stages', [(DILATION, 1, 1, 1, 1)] * 16, 3, 0)
+    yield zeros('11 17 stages', [(DILATION, 1, 1, 1, 1)] * 17, 3, 1)
+    yield zeros('11 4,096 cells', high + [(EROSION, 0, 0, 31, 31), (EROSION, 0, 0, 1, 1), (EROSION, 0, 0, 0, 0)], 16, 0)
+    yield zeros('11 4,097 cells', high + [(EROSION, 0, 0, 31, 20)], 17, 15)
+    yield 'all rows that a job can have', job([(EROSION, 1, 1, 1, 1)], [b'\0'] * 65535), full_run([b'\0'] * 65535)
