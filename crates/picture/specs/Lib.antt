@@ -1,0 +1,6 @@
+pub mod Numbers
+pub mod Fit
+pub mod Step
+pub mod Runs
+pub mod Start
+pub mod ReadOut
