@@ -4,6 +4,7 @@ use libc::STDOUT_FILENO;
 mod grey; // grey.rt: lines of grey bytes
 mod rate; // rate.rt: lines of floats
 mod firm; // firm.rt: the firmware's one-row filter
+mod image; // image.rt: pictures
 
 fn text(t: &[u8]) {
     io::write_all(STDOUT_FILENO, t);
@@ -43,4 +44,8 @@ fn main() {
     rate::zeros();
     firm::rows();
     firm::refusals();
+    image::starts();
+    image::case_12();
+    image::three_stages();
+    image::other_states();
 }

@@ -26,7 +26,7 @@ fn hex(b: u8) {
     io::print_hex(libc::STDOUT_FILENO, b as u64, 2);
 }
 
-fn float(x: f32) {
+pub fn float(x: f32) {
     let mut bytes = [0u8; 4];
     sample::rate::to_bytes(x, &mut bytes, 0);
     hex(bytes[3]);

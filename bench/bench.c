@@ -1,0 +1,293 @@
+/* Times one dilation by a square window: (p) the proved code, (a) the same queue method in C, (b) van Herk's in C.
+ *
+ *     bench FOLDER [RUNS]
+ *
+ * Writes its pictures to FOLDER, for others.py to read, and results to standard output, a line each with tabs between:
+ *     time     sample picture size window method nanoseconds-per-pixel
+ *     sum      sample picture size window sum-of-the-answer
+ *     latency  sample picture width window method median-microseconds worst-microseconds
+ *     memory   sample width window method bytes
+ * All times are processor time of this one thread, medians over RUNS rounds; in a round each method has its turn.
+ * The methods must give the same bytes, or it stops.
+ */
+#define _POSIX_C_SOURCE 200809L
+#include "methods.h"
+#include "proved.h"
+
+#include <math.h>
+#include <stdio.h>
+#include <stdlib.h>
+#include <string.h>
+#include <time.h>
+
+enum { MOST_WIDTH = 4096, MOST_ROWS = 2048, MOST_RUNS = 99, LATENCY_ROWS = 504 };
+
+static int runs = 5;
+static const char *const samples[] = {"grey", "float"}, *const pictures[] = {"noise", "smooth", "stairs"};
+static const size_t sizes[][2] = {{1024, 1024}, {4096, 2048}}, windows[] = {3, 7, 15, 31, 63};
+
+/* What is filtered and with which window, and the memory that the methods work in. */
+static struct task {
+    int is_float;
+    size_t width, rows, extent;
+    void *picture, *out, *values, *forward, *backward;
+    uint16_t *positions;
+    uint8_t *starts, *lengths;
+} task;
+
+static size_t sample_size(void) { return task.is_float ? sizeof(float) : 1; }
+static size_t cells(void) { return task.width * (2 * task.extent + 1); }
+static size_t padded(size_t length) { return length + 4 * task.extent + 1; }
+
+/* ---- the methods: each filters the task's picture into its output */
+
+static void by_proved(void)
+{
+    struct slice picture = {task.picture, task.width * task.rows}, out = {task.out, task.width * task.rows};
+    struct slice values = {task.values, cells()}, positions = {task.positions, cells()};
+    struct slice starts = {task.starts, task.width}, lengths = {task.lengths, task.width};
+    uint8_t extent = (uint8_t)task.extent;
+    (task.is_float ? rt_rate_stage : rt_grey_stage)(DILATION, extent, extent, extent, extent, task.width, task.rows, &picture, &out,
+                                                    &values, &positions, &starts, &lengths);
+}
+
+static void by_queue(void)
+{
+    size_t extent = task.extent;
+    if (task.is_float)
+        rate_queue_stage(DILATION, extent, extent, extent, extent, task.width, task.rows, task.picture, task.out, task.values,
+                         task.positions, task.starts, task.lengths);
+    else
+        grey_queue_stage(DILATION, extent, extent, extent, extent, task.width, task.rows, task.picture, task.out, task.values,
+                         task.positions, task.starts, task.lengths);
+}
+
+static void by_herk(void)
+{
+    size_t extent = task.extent;
+    if (task.is_float)
+        rate_herk_stage(DILATION, extent, extent, extent, extent, task.width, task.rows, task.picture, task.out, task.forward,
+                        task.backward);
+    else
+        grey_herk_stage(DILATION, extent, extent, extent, extent, task.width, task.rows, task.picture, task.out, task.forward,
+                        task.backward);
+}
+
+static const struct method {
+    const char *name;
+    void (*filter)(void);
+} methods[] = {{"van Herk in C", by_herk}, {"queue in C", by_queue}, {"proved", by_proved}};
+
+/* How many of the methods there are: the proved code comes last, and may not be linked in yet. */
+static int method_count(void) { return (task.is_float ? rt_rate_stage : rt_grey_stage) ? 3 : 2; }
+
+/* ---- one step */
+
+static void row_by_proved(size_t step, const uint8_t *row)
+{
+    struct slice in = {row, task.width}, out = {task.out, task.width}, values = {task.values, cells()};
+    struct slice positions = {task.positions, cells()}, starts = {task.starts, task.width}, lengths = {task.lengths, task.width};
+    uint8_t extent = (uint8_t)task.extent;
+    (task.is_float ? rt_rate_row : rt_grey_row)(DILATION, extent, extent, extent, extent, task.width, task.rows, step, &in, &out,
+                                                &values, &positions, &starts, &lengths);
+}
+
+static void row_by_queue(size_t step, const uint8_t *row)
+{
+    size_t extent = task.extent;
+    if (task.is_float)
+        rate_queue_row(DILATION, extent, extent, extent, extent, task.width, task.rows, step, (const void *)row, task.out,
+                       task.values, task.positions, task.starts, task.lengths);
+    else
+        grey_queue_row(DILATION, extent, extent, extent, extent, task.width, task.rows, step, row, task.out, task.values,
+                       task.positions, task.starts, task.lengths);
+}
+
+/* ---- pictures */
+
+static uint32_t any(void)
+{
+    static uint32_t state = 1;
+    state ^= state << 13;
+    state ^= state >> 17;
+    state ^= state << 5;
+    return state >> 8;
+}
+
+/* A value from 0 to under 256. Noise; slow waves; or rows that fall by one and then jump, which empties full queues. */
+static double pixel(int picture, size_t x, size_t y)
+{
+    if (picture == 0) return any() / 65536.0;
+    if (picture == 1) return 128 + 60 * sin(x / 97.0 + y / 301.0) + 60 * sin(y / 61.0 - x / 211.0);
+    return y % 63 == 62 ? 255 : 200 - (double)(y % 63);
+}
+
+static void draw(int picture)
+{
+    for (size_t y = 0; y < task.rows; y++)
+        for (size_t x = 0; x < task.width; x++) {
+            double value = pixel(picture, x, y);
+            if (task.is_float)
+                ((float *)task.picture)[y * task.width + x] = (float)value;
+            else
+                ((uint8_t *)task.picture)[y * task.width + x] = (uint8_t)value;
+        }
+}
+
+static void save(const char *folder, const char *name)
+{
+    char path[4096];
+    snprintf(path, sizeof path, "%s/%s", folder, name);
+    FILE *file = fopen(path, "wb");
+    size_t count = task.width * task.rows;
+    if (file == NULL || fwrite(task.picture, sample_size(), count, file) != count || fclose(file) != 0) exit(2);
+}
+
+/* ---- measuring */
+
+static double now(void)
+{
+    struct timespec time;
+    clock_gettime(CLOCK_PROCESS_CPUTIME_ID, &time);
+    return (double)time.tv_sec * 1e9 + (double)time.tv_nsec;
+}
+
+static int ascending(const void *a, const void *b)
+{
+    double x = *(const double *)a, y = *(const double *)b;
+    return (x > y) - (x < y);
+}
+
+static double median(double *times, int count)
+{
+    qsort(times, (size_t)count, sizeof *times, ascending);
+    return times[count / 2];
+}
+
+/* Adler's sum, as Python's zlib has it. */
+static unsigned long sum(const uint8_t *bytes, size_t count)
+{
+    unsigned long a = 1, b = 0;
+    for (size_t i = 0; i < count; i++) {
+        a = (a + bytes[i]) % 65521;
+        b = (b + a) % 65521;
+    }
+    return b << 16 | a;
+}
+
+static void time_methods(const char *name)
+{
+    static double times[3][MOST_RUNS];
+    unsigned long first = 0;
+    for (int run = 0; run < runs; run++)
+        for (int m = 0; m < method_count(); m++) {
+            size_t bytes = task.width * task.rows * sample_size();
+            if (run == 0) memset(task.out, 0xEE, bytes);
+            double start = now();
+            methods[m].filter();
+            times[m][run] = (now() - start) / (double)(task.width * task.rows);
+            if (run != 0) continue;
+            unsigned long answer = sum(task.out, bytes);
+            if (m == 0) first = answer;
+            if (answer == first) continue;
+            fprintf(stderr, "%s: %s differs at window %zu\n", name, methods[m].name, 2 * task.extent + 1);
+            exit(1);
+        }
+    printf("sum\t%s\t%zu\t%lu\n", name, 2 * task.extent + 1, first);
+    for (int m = method_count(); m-- > 0;)
+        printf("time\t%s\t%zu\t%s\t%.2f\n", name, 2 * task.extent + 1, methods[m].name, median(times[m], runs));
+    fflush(stdout);
+}
+
+/* A row's time is the median over the rounds, so that what lasts is the row's own cost; then median and worst over rows. */
+static void time_rows(const char *name, const char *method, void (*filter)(size_t, const uint8_t *))
+{
+    static double times[LATENCY_ROWS][MOST_RUNS], rows[LATENCY_ROWS];
+    for (int run = 0; run < runs; run++) {
+        memset(task.starts, 0, task.width);
+        memset(task.lengths, 0, task.width);
+        for (size_t step = 0; step < task.rows; step++) {
+            double start = now();
+            filter(step, (const uint8_t *)task.picture + step * task.width * sample_size());
+            times[step][run] = now() - start;
+        }
+    }
+    for (size_t step = 0; step < task.rows; step++) rows[step] = median(times[step], runs) / 1000;
+    double middle = median(rows, (int)task.rows);
+    printf("latency\t%s\t%zu\t%s\t%.1f\t%.1f\n", name, 2 * task.extent + 1, method, middle, rows[task.rows - 1]);
+}
+
+static void all_times(const char *folder)
+{
+    for (size_t size = 0; size < 2; size++)
+        for (int picture = 0; picture < 2; picture++) {
+            char file[64], name[64];
+            task.width = sizes[size][0];
+            task.rows = sizes[size][1];
+            snprintf(name, sizeof name, "%s\t%s\t%zux%zu", samples[task.is_float], pictures[picture], task.width, task.rows);
+            snprintf(file, sizeof file, "%s-%s-%zux%zu", samples[task.is_float], pictures[picture], task.width, task.rows);
+            draw(picture);
+            save(folder, file);
+            for (size_t i = 0; i < 5; i++) {
+                task.extent = windows[i] / 2;
+                time_methods(name);
+            }
+        }
+}
+
+static void all_latencies(void)
+{
+    task.width = MOST_WIDTH;
+    task.rows = LATENCY_ROWS;
+    for (int picture = 0; picture < 3; picture++) {
+        char name[64];
+        snprintf(name, sizeof name, "%s\t%s\t%zu", samples[task.is_float], pictures[picture], task.width);
+        draw(picture);
+        for (size_t i = 0; i < 5; i++) {
+            task.extent = windows[i] / 2;
+            if (task.is_float ? rt_rate_row : rt_grey_row) time_rows(name, "proved", row_by_proved);
+            time_rows(name, "queue in C", row_by_queue);
+        }
+    }
+}
+
+/* The working memory beside one row in and one row out; van Herk's needs the whole picture as well. */
+static void all_memory(void)
+{
+    task.width = MOST_WIDTH;
+    for (size_t i = 0; i < 5; i++) {
+        task.extent = windows[i] / 2;
+        size_t cell = sample_size() + sizeof(uint16_t), row = task.width * sample_size();
+        size_t queues = cells() * cell + 2 * task.width + 63 * cell + row;
+        printf("memory\t%s\t%zu\t%zu\tqueue, proved or in C\t%zu\n", samples[task.is_float], task.width, windows[i], queues);
+        size_t longest = padded(MOST_ROWS) * 64 > padded(task.width) ? padded(MOST_ROWS) * 64 : padded(task.width);
+        size_t lines = 2 * longest * sample_size(), whole = row * MOST_ROWS;
+        printf("memory\t%s\t%zu\t%zu\tvan Herk in C\t%zu\n", samples[task.is_float], task.width, windows[i], lines + whole);
+    }
+}
+
+int main(int count, char **words)
+{
+    if (count < 2) return 64;
+    if (count > 2) runs = atoi(words[2]);
+    if (runs < 1 || runs > MOST_RUNS) return 64;
+    task.extent = 31;
+    size_t pixels = (size_t)MOST_WIDTH * MOST_ROWS * sizeof(float), most_cells = (size_t)MOST_WIDTH * 63;
+    task.picture = malloc(pixels);
+    task.out = malloc(pixels);
+    task.values = calloc(most_cells, sizeof(float));
+    task.positions = calloc(most_cells, sizeof(uint16_t));
+    task.starts = calloc(MOST_WIDTH, 1);
+    task.lengths = calloc(MOST_WIDTH, 1);
+    task.forward = malloc(padded(MOST_WIDTH) * 64 * sizeof(float));
+    task.backward = malloc(padded(MOST_WIDTH) * 64 * sizeof(float));
+    if (!task.picture || !task.out || !task.values || !task.positions || !task.starts || !task.lengths || !task.forward ||
+        !task.backward)
+        return 2;
+    for (task.is_float = 0; task.is_float < 2; task.is_float++) {
+        all_times(words[1]);
+        all_latencies();
+        all_memory();
+    }
+    return 0;
+}

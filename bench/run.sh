@@ -1,0 +1,36 @@
+#!/bin/sh
+# Measures the proved code against the same method in C, van Herk's method in C and what other libraries are installed,
+# and prints tables. bench/README.md says what is measured and what the libraries are called.
+#
+#     bench/run.sh [RUNS]       RUNS rounds for the medians, 5 where it is not given
+#     PYTHON=..                 the Python that sees the libraries, python3 where it is not given
+#
+# Needs the kit and a C compiler for this machine, cc. The proved code is measured where bench/main.txt is there.
+set -eu
+cd "$(dirname "$0")/.."
+kit=${RATTLE_HOME:-$(dirname "$(dirname "$(rt doc)")")}
+clang=$kit/on/$(uname -m)/toolchain/bin/clang
+made=target/bench
+mkdir -p $made/include $made/pictures
+
+# (p) The proved code: main.txt, whose first line names the crates that it uses. (Its name is no .rt, for it is proved
+# by nobody: it only calls what is.)
+proved=
+if [ -f bench/main.txt ]; then
+    cp bench/main.txt $made/main.rt
+    crates=$(sed -n '1s/^\/\/ crates: //p' bench/main.txt)
+    bench/native.sh $made/main.rt $made/proved.o 'grey_stage|rate_stage|grey_row|rate_row' $crates
+    proved=$made/proved.o
+fi
+
+# (a), (b) The methods in C, by the kit's compiler, which has no headers of its own.
+printf '#pragma once\ntypedef __UINT8_TYPE__ uint8_t;\ntypedef __UINT16_TYPE__ uint16_t;\n' >$made/include/stdint.h
+printf '#pragma once\ntypedef __SIZE_TYPE__ size_t;\n' >$made/include/stddef.h
+"$clang" --target="$(uname -m)-unknown-linux-gnu" -std=c99 -O3 -fPIC -ffreestanding -isystem $made/include -Wall -Wextra -Werror \
+    -c bench/methods.c -o $made/methods.o
+cc -std=c99 -O2 -Wall -Wextra -Ibench -o $made/bench bench/bench.c $made/methods.o $proved -lm
+
+$made/bench $made/pictures "${1:-5}" >$made/results
+# (c) The other libraries.
+"${PYTHON:-python3}" bench/others.py $made/pictures $made/results >$made/others
+"${PYTHON:-python3}" bench/table.py $made/results $made/others
