@@ -75,24 +75,37 @@ pub fn read(
     comparisons
 }
 
-// The value in the cell of column x's start; the column's cells begin at lo.
-fn front_of(values: &[f32], starts: &[u8], lo: usize, x: usize) -> f32
-    requires { ⌜ (x < length (now starts)) × (lo + getD (now starts) x 0 < length (now values)) ⌝ }
-    ensures { λ r. ⌜ r ≡ getD (now (values .entry)) (lo + getD (now (starts .entry)) x 0) nan ⌝ }
+// The entry in the cell of column x's start; the column's cells begin at lo.
+fn front_of<'a>(
+    values: &'a [f32],
+    positions: &'a [u16],
+    starts: &[u8],
+    lo: usize,
+    x: usize,
+) -> Entry
+    requires { ⌜ (x < length (now starts)) × (lo + getD (now starts) x 0 < length (now values)) × (length (now positions) ≡ length (now values)) ⌝ }
+    ensures { λ r. ⌜ (r .value ≡ getD (now (values .entry)) (lo + getD (now (starts .entry)) x 0) nan) × (r .position ≡ getD (now (positions .entry)) (lo + getD (now (starts .entry)) x 0) 0) ⌝ }
 {
     let at = lo + wide(starts[x]);
-    values[at]
+    queue::rate::cell(values, positions, at)
 }
 
-// The front of every column goes into the row.
-pub fn fronts(places: usize, values: &[f32], starts: &[u8], row: &mut [f32])
-    requires { ⌜ (length (now values) ≡ length (now row) * places) × (length (now starts) ≡ length (now row)) × ((x : ℕ) → x < length (now row) → getD (now starts) x 0 < places) ⌝ }
+// The value at the front of every column goes into the row.
+pub fn fronts<'a>(
+    places: usize,
+    values: &'a [f32],
+    positions: &'a [u16],
+    starts: &[u8],
+    row: &mut [f32],
+)
+    requires { ⌜ (length (now values) ≡ length (now row) * places) × (length (now positions) ≡ length (now values)) × (length (now starts) ≡ length (now row)) × ((x : ℕ) → x < length (now row) → getD (now starts) x 0 < places) ⌝ }
     ensures { λ _. ⌜ now (row .exit) ≡ tabulate (length (now (row .entry))) (frontAt rates places (now (values .entry)) (now (starts .entry))) ⌝ }
 {
     let mut lo = 0;
     let mut x = 0;
     while x < row.len() {
-        row[x] = front_of(values, starts, lo, x);
+        let front = front_of(values, positions, starts, lo, x);
+        row[x] = front.value;
         lo += places;
         x += 1;
     }

@@ -111,7 +111,7 @@ fn step_on(line: Line, q: RowQueue, comparisons: usize) -> Stepped
     let t = line.step;
     let ahead = judge::ahead(kind, line.left, line.right);
     let first = q.start;
-    let value = q.values[first];
+    let front = queue::grey::cell(&q.values, &q.positions, first);
     let next = Line {
         kind: kind,
         left: line.left,
@@ -130,7 +130,7 @@ fn step_on(line: Line, q: RowQueue, comparisons: usize) -> Stepped
     }
     Stepped {
         answer: Answer::Pixel {
-            value: value,
+            value: front.value,
             number: t - ahead,
             comparisons: comparisons,
         },
@@ -149,10 +149,14 @@ fn read_on(line: Line, v: u8) -> Stepped
     let start = q.start;
     let count = q.count;
     let window = judge::window(kind, line.left, line.right);
-    let r = queue::grey::room(kind, window, &q.values, &q.positions, start, count, v, t);
+    let e = Entry {
+        value: v,
+        position: row::position(t),
+    };
+    let r = queue::grey::room(kind, window, &q.values, &q.positions, start, count, e);
     let at = r.at;
-    q.values[at] = v;
-    q.positions[at] = row::position(t);
+    q.values[at] = e.value;
+    q.positions[at] = e.position;
     q.start = r.start;
     q.count = r.count + 1;
     step_on(line, q, r.comparisons)
@@ -239,8 +243,5 @@ pub fn read_out(line: Line, place: usize) -> ReadOut
         return ReadOut::Refused(number);
     }
     let at = queue::slot(start, place, 63);
-    ReadOut::Found(Entry {
-        value: q.values[at],
-        position: q.positions[at],
-    })
+    ReadOut::Found(queue::grey::cell(&q.values, &q.positions, at))
 }

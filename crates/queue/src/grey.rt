@@ -35,7 +35,7 @@ pub fn popped(kind: Kind, values: &[u8], start: usize, count: usize, v: u8) -> u
     p
 }
 
-// Room for v, which is read at step t.
+// Room for an entry, which is read at the step of its position.
 pub fn room<'a>(
     kind: Kind,
     window: usize,
@@ -43,16 +43,15 @@ pub fn room<'a>(
     positions: &'a [u16],
     start: usize,
     count: usize,
-    v: u8,
-    t: usize,
+    e: Entry,
 ) -> Room
     requires { ⌜ (start < length (now values)) × (count ≤ window) × (0 < window) × (window ≤ length (now values)) × (length (now values) ≤ 63) × (length (now positions) ≡ length (now values)) ⌝ }
-    ensures { λ r. ⌜ Roomed greys kind window t v (now (values .entry)) (now (positions .entry)) start count r ⌝ }
+    ensures { λ r. ⌜ Roomed greys kind window (e .position) (e .value) (now (values .entry)) (now (positions .entry)) start count r ⌝ }
 {
     let places = values.len();
-    let p = popped(kind, values, start, count, v);
+    let p = popped(kind, values, start, count, e.value);
     let kept = count - p;
-    let gone = crate::goes(positions, start, kept, window, t);
+    let gone = crate::goes(positions, start, kept, window, crate::wide(e.position));
     let first = crate::slot(start, gone, places);
     let stay = kept - gone;
     let at = crate::slot(first, stay, places);
@@ -77,16 +76,7 @@ pub fn push(
     ensures { λ r. ⌜ Pushed greys kind (e .position) (e .value) (now (values .entry)) (now (positions .entry)) start count (now (values .exit)) (now (positions .exit)) r ⌝ }
 {
     let window = values.len();
-    let r = room(
-        kind,
-        window,
-        &values[..],
-        &positions[..],
-        start,
-        count,
-        e.value,
-        crate::wide(e.position),
-    );
+    let r = room(kind, window, &values[..], &positions[..], start, count, e);
     let at = r.at;
     values[at] = e.value;
     positions[at] = e.position;
@@ -98,7 +88,7 @@ pub fn push(
 }
 
 // The entry in a cell: the oldest stands in the cell of the queue's start.
-pub fn cell(values: &[u8], positions: &[u16], at: usize) -> Entry
+pub fn cell<'a>(values: &'a [u8], positions: &'a [u16], at: usize) -> Entry
     requires { ⌜ (at < length (now values)) × (at < length (now positions)) ⌝ }
     ensures { λ r. ⌜ (r .value ≡ getD (now (values .entry)) at 0) × (r .position ≡ getD (now (positions .entry)) at 0) ⌝ }
 {

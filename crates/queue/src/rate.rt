@@ -36,7 +36,7 @@ pub fn popped(kind: Kind, values: &[f32], start: usize, count: usize, v: f32) ->
     p
 }
 
-// Room for v, which is read at step t.
+// Room for an entry, which is read at the step of its position.
 pub fn room<'a>(
     kind: Kind,
     window: usize,
@@ -44,16 +44,15 @@ pub fn room<'a>(
     positions: &'a [u16],
     start: usize,
     count: usize,
-    v: f32,
-    t: usize,
+    e: Entry,
 ) -> Room
     requires { ⌜ (start < length (now values)) × (count ≤ window) × (0 < window) × (window ≤ length (now values)) × (length (now values) ≤ 63) × (length (now positions) ≡ length (now values)) ⌝ }
-    ensures { λ r. ⌜ Roomed rates kind window t v (now (values .entry)) (now (positions .entry)) start count r ⌝ }
+    ensures { λ r. ⌜ Roomed rates kind window (e .position) (e .value) (now (values .entry)) (now (positions .entry)) start count r ⌝ }
 {
     let places = values.len();
-    let p = popped(kind, values, start, count, v);
+    let p = popped(kind, values, start, count, e.value);
     let kept = count - p;
-    let gone = crate::goes(positions, start, kept, window, t);
+    let gone = crate::goes(positions, start, kept, window, crate::wide(e.position));
     let first = crate::slot(start, gone, places);
     let stay = kept - gone;
     let at = crate::slot(first, stay, places);
@@ -78,16 +77,7 @@ pub fn push(
     ensures { λ r. ⌜ Pushed rates kind (e .position) (e .value) (now (values .entry)) (now (positions .entry)) start count (now (values .exit)) (now (positions .exit)) r ⌝ }
 {
     let window = values.len();
-    let r = room(
-        kind,
-        window,
-        &values[..],
-        &positions[..],
-        start,
-        count,
-        e.value,
-        crate::wide(e.position),
-    );
+    let r = room(kind, window, &values[..], &positions[..], start, count, e);
     let at = r.at;
     values[at] = e.value;
     positions[at] = e.position;
@@ -99,7 +89,7 @@ pub fn push(
 }
 
 // The entry in a cell: the oldest stands in the cell of the queue's start.
-pub fn cell(values: &[f32], positions: &[u16], at: usize) -> Entry
+pub fn cell<'a>(values: &'a [f32], positions: &'a [u16], at: usize) -> Entry
     requires { ⌜ (at < length (now values)) × (at < length (now positions)) ⌝ }
     ensures { λ r. ⌜ (r .value ≡ getD (now (values .entry)) at nan) × (r .position ≡ getD (now (positions .entry)) at 0) ⌝ }
 {

@@ -6,6 +6,7 @@ ghost use lib.ListN.{length, getD, set, replicate};
 ghost use Rattle.sample.specs.Samples.{greys};
 ghost use Rattle.row.specs.Row.{answered, Across, Read, Drained};
 use morph::Kind;
+use queue::grey::Entry;
 
 // The row queue: its own 63 places, where it starts, and how many entries it has.
 pub struct RowQueue {
@@ -56,15 +57,19 @@ fn read_row(kind: Kind, back: usize, ahead: usize, row: &mut [u8]) -> Passed
     let mut comparisons = 0;
     let mut t = 0;
     while t < n {
-        let v = row[t];
-        let r = queue::grey::room(kind, window, &q.values, &q.positions, start, count, v, t);
+        let e = Entry {
+            value: row[t],
+            position: crate::position(t),
+        };
+        let r = queue::grey::room(kind, window, &q.values, &q.positions, start, count, e);
         let at = r.at;
-        q.values[at] = v;
-        q.positions[at] = crate::position(t);
+        q.values[at] = e.value;
+        q.positions[at] = e.position;
         start = r.start;
         count = r.count + 1;
         comparisons += r.comparisons;
-        answer(row, ahead, t, q.values[start]);
+        let front = queue::grey::cell(&q.values, &q.positions, start);
+        answer(row, ahead, t, front.value);
         t += 1;
     }
     q.start = start;
@@ -90,7 +95,8 @@ fn drain_row(q: RowQueue, back: usize, ahead: usize, row: &mut [u8])
         let gone = queue::goes(&q.positions, start, count, window, t);
         start = queue::slot(start, gone, 63);
         count -= gone;
-        answer(row, ahead, t, q.values[start]);
+        let front = queue::grey::cell(&q.values, &q.positions, start);
+        answer(row, ahead, t, front.value);
         t += 1;
     }
 }

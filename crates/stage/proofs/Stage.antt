@@ -224,7 +224,8 @@ module _ {A : Type 0} (K : Samples A) (s : Stage) (H t : ℕ) (M : Memory A) (ro
 
     -- what taking the fronts asks for
     pub fronts-ready : (P : ℕ) → P ≡ sizeOf s → length (M .values) ≡ length (M .positions) → length (M .positions) ≡ length row * sizeOf s
-        → (length (M′ .values) ≡ length row′ * P) × (length (M′ .starts) ≡ length row′) × ((x : ℕ) → x < length row′ → getD (M′ .starts) x 0 < P)
+        → (length (M′ .values) ≡ length row′ * P) × (length (M′ .positions) ≡ length (M′ .values)) × (length (M′ .starts) ≡ length row′) × ((x : ℕ) → x < length row′ → getD (M′ .starts) x 0 < P)
     fronts-ready P e l m =
         let w = h .row-long in
-        (rw (e, w) (h .values-long ∙ l ∙ m), rw w (h .lent .starts-long), λ x i. rw e (h .lent .sound .below x (rw (← w) i)))
+        let v = h .values-long ∙ l ∙ m in
+        (rw (e, w) v, h .lent .positions-long ∙ sym v, rw w (h .lent .starts-long), λ x i. rw e (h .lent .sound .below x (rw (← w) i)))

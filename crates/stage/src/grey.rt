@@ -132,6 +132,12 @@ pub fn step(
     if t < ahead {
         return c;
     }
-    columns::grey::fronts(plan::size_of(stage), &values[..], &starts[..], row);
+    columns::grey::fronts(
+        plan::size_of(stage),
+        &values[..],
+        &positions[..],
+        &starts[..],
+        row,
+    );
     c
 }

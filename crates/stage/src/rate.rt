@@ -132,6 +132,12 @@ pub fn step(
     if t < ahead {
         return c;
     }
-    columns::rate::fronts(plan::size_of(stage), &values[..], &starts[..], row);
+    columns::rate::fronts(
+        plan::size_of(stage),
+        &values[..],
+        &positions[..],
+        &starts[..],
+        row,
+    );
     c
 }

@@ -10,21 +10,21 @@ use Rattle.columns.proofs.rate.fronts.Statement.{statement}
 use Rattle.columns.proofs.rate.fronts.Tie as tie
 
 abbrev Inv-loop : tie.InvT-loop
-Inv-loop places values starts row₀ lo₀ x₀ row lo x = Fronting rates places values starts row₀ row lo x
+Inv-loop places values positions starts row₀ lo₀ x₀ row lo x = Fronting rates places values starts row₀ row lo x
 
 abbrev μ-loop : tie.MeasureT-loop
-μ-loop places values starts row₀ lo₀ x₀ row lo x = length row₀ - x
+μ-loop places values positions starts row₀ lo₀ x₀ row lo x = length row₀ - x
 
 loop-holds : tie.Need-loop-holds Inv-loop μ-loop
 loop-holds c = fronting-first rates _ _ _ _
 
 front-of-requires : tie.Need-front-of-requires Inv-loop μ-loop
 front-of-requires c κs =
-    let s = c .before .before .before .before .before in
+    let s = c .before .before .before .before .before .before in
     let l = c .before .loop in
-    let h = s .pre .2 (l .x) (omega arith) in
+    let h = s .pre .3 (l .x) (omega arith) in
     let i = ends-before (s .args .places) (l .x) (length (now (s .args .row))) (omega arith) in
-    (omega arith, omega arith)
+    (omega arith, omega arith, omega arith)
 
 mul-row : tie.Need-mul-row Inv-loop μ-loop
 mul-row c = omega arith
@@ -33,7 +33,7 @@ slice-write-row : tie.Need-slice-write-row Inv-loop μ-loop
 slice-write-row c = omega arith
 
 add-lo : tie.Need-add-lo Inv-loop μ-loop
-add-lo c = let s = c .before .before .before .before .before .before in let l = c .before .before .loop in omega (arith, ends-before (s .args .places) (l .x) (length (now (s .args .row))) (omega arith))
+add-lo c = let s = c .before .before .before .before .before .before .before in let l = c .before .before .loop in omega (arith, ends-before (s .args .places) (l .x) (length (now (s .args .row))) (omega arith))
 
 add-x : tie.Need-add-x Inv-loop μ-loop
 add-x c = omega arith
@@ -42,7 +42,7 @@ loop-less : tie.Need-loop-less Inv-loop μ-loop
 loop-less c = omega arith
 
 loop-again : tie.Need-loop-again Inv-loop μ-loop
-loop-again c = let l = c .before .before .loop in fronting-next rates _ _ _ _ _ _ _ (l .inv) _ (omega arith) (c .front-of .ensures)
+loop-again c = let l = c .before .before .loop in fronting-next rates _ _ _ _ _ _ _ (l .inv) _ (omega arith) (c .front-of .ensures .0)
 
 same-length : tie.Need-same-length Inv-loop μ-loop
 same-length c = omega arith

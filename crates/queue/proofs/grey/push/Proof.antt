@@ -8,10 +8,6 @@ use Rattle.queue.proofs.grey.push.Tie as tie
 use Rattle.queue.proofs.grey.push.Reads as reads
 use Rattle.queue.proofs.grey.push.Lts as lts
 use Rattle.queue.proofs.grey.room.Reads as room-reads
-use Rattle.queue.proofs.wide.Reads as wide-reads
-
-wide-requires : tie.Need-wide-requires
-wide-requires c κs = search needs
 
 room-requires : tie.Need-room-requires
 room-requires c κs = search needs
@@ -25,8 +21,8 @@ mul-positions c = search needs
 slice-write-positions : tie.Need-slice-write-positions
 slice-write-positions c = search needs
 
-add-t14 : tie.Need-add-t14
-add-t14 c = search needs
+add-t15 : tie.Need-add-t15
+add-t15 c = search needs
 
 same-length : tie.Need-same-length
 same-length c = search needs
@@ -35,18 +31,17 @@ same-length-2 : tie.Need-same-length-2
 same-length-2 c = search needs
 
 returns : tie.Need-returns
-returns c = room-pushed greys _ _ _ _ _ _ _ _ (rw (c .before .before .wide .ensures .0) at (c .before .room .ensures)) (omega arith)
+returns c = room-pushed greys _ _ _ _ _ _ _ _ (c .before .room .ensures) (omega arith)
 
 pub push-spec : {M : Type 1} → statement M
 push-spec =
     tie.close
     (tie.spec
-    wide-requires
     room-requires
     slice-write-values
     mul-positions
     slice-write-positions
-    add-t14
+    add-t15
     same-length
     same-length-2
     returns)

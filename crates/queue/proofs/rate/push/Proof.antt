@@ -8,10 +8,6 @@ use Rattle.queue.proofs.rate.push.Tie as tie
 use Rattle.queue.proofs.rate.push.Reads as reads
 use Rattle.queue.proofs.rate.push.Lts as lts
 use Rattle.queue.proofs.rate.room.Reads as room-reads
-use Rattle.queue.proofs.wide.Reads as wide-reads
-
-wide-requires : tie.Need-wide-requires
-wide-requires c κs = search needs
 
 room-requires : tie.Need-room-requires
 room-requires c κs = search needs
@@ -38,13 +34,12 @@ same-length-2 : tie.Need-same-length-2
 same-length-2 c = search needs
 
 returns : tie.Need-returns
-returns c = room-pushed rates _ _ _ _ _ _ _ _ (rw (c .before .before .wide .ensures .0) at (c .before .room .ensures)) (omega arith)
+returns c = room-pushed rates _ _ _ _ _ _ _ _ (c .before .room .ensures) (omega arith)
 
 pub push-spec : {M : Type 1} → statement M
 push-spec =
     tie.close
     (tie.spec
-    wide-requires
     room-requires
     mul-values
     slice-write-values

@@ -14,6 +14,7 @@ use Rattle.row.proofs.grey.read_row.Lts as lts
 use Rattle.row.proofs.grey.answer.Reads as answer-reads
 use Rattle.row.proofs.grey.empty.Reads as empty-reads
 use Rattle.row.proofs.position.Reads as position-reads
+use Rattle.queue.proofs.grey.cell.Reads as cell-reads
 use Rattle.queue.proofs.grey.room.Reads as room-reads
 
 abbrev Inv-loop : tie.InvT-loop
@@ -36,17 +37,17 @@ empty-requires c κs = search needs
 loop-holds : tie.Need-loop-holds Inv-loop μ-loop
 loop-holds c = (omega arith, refl, read-first greys _ _ _ _ _ _ (ap length (c .empty .ensures .0) ∙ refl) (ap length (c .empty .ensures .1) ∙ refl))
 
-slice-read-v : tie.Need-slice-read-v Inv-loop μ-loop
-slice-read-v c = omega arith
+slice-read-t20 : tie.Need-slice-read-t20 Inv-loop μ-loop
+slice-read-t20 c = omega arith
+
+position-requires : tie.Need-position-requires Inv-loop μ-loop
+position-requires c κs = search needs
 
 room-requires : tie.Need-room-requires Inv-loop μ-loop
 room-requires c κs = search needs
 
 element-write-q : tie.Need-element-write-q Inv-loop μ-loop
 element-write-q c = omega arith
-
-position-requires : tie.Need-position-requires Inv-loop μ-loop
-position-requires c κs = search needs
 
 mul-q : tie.Need-mul-q Inv-loop μ-loop
 mul-q c = omega arith
@@ -60,8 +61,8 @@ add-count c = omega arith
 add-comparisons : tie.Need-add-comparisons Inv-loop μ-loop
 add-comparisons c = omega arith
 
-element-copy-out-answer : tie.Need-element-copy-out-answer Inv-loop μ-loop
-element-copy-out-answer c = omega arith
+cell-requires : tie.Need-cell-requires Inv-loop μ-loop
+cell-requires c κs = search needs
 
 answer-requires : tie.Need-answer-requires Inv-loop μ-loop
 answer-requires c κs = search needs
@@ -76,8 +77,12 @@ loop-again : tie.Need-loop-again Inv-loop μ-loop
 loop-again c = (
   omega arith,
   refl,
-  rw (c .before .before .answer .ensures, c .before .before .before .before .before .before .before .position .ensures)
-      (read-next greys _ _ _ _ _ _ _ _ _ _ _ (c .before .before .before .before .before .before .before .before .before .before .before .before .before .before .before .before .loop .inv .2) _ _ (c .before .before .before .before .before .before .before .before .room .result) (omega arith) (omega arith) (omega arith) refl (c .before .before .before .before .before .before .before .before .room .ensures) refl),
+  let s = c .before .before .before .before .before .before .before .before .before .before .before .before .before .before .before .before .before .before .before .before .before .before .before .before in
+      let i = c .before .before .before .before .before .before .before .before .before .before .before .before .before .before .before .before .before .before .before .before .before .loop .inv in
+      let e = c .before .before .before .before .before .before .before .before .before .before .before .before .before .before .before .before .before .before .position .ensures in
+      let r = c .before .before .before .before .before .before .before .before .before .before .before .before .room in
+      rw (c .before .before .answer .ensures, e)
+      (read-next greys _ _ _ _ _ _ _ _ _ _ _ (i .2) _ _ (r .result) (omega (arith, i .1, c .before .before .before .before .before .before .before .before .before .before .before .before .before .before .before .before .before .before .before .before .loop-test .taken)) (s .pre .0) (s .pre .1) refl (rw e at (r .ensures)) (c .before .before .before .before .cell .ensures .0)),
 )
 
 same-length : tie.Need-same-length Inv-loop μ-loop
@@ -96,15 +101,15 @@ read-row-spec =
     add-window-2
     empty-requires
     loop-holds
-    slice-read-v
+    slice-read-t20
+    position-requires
     room-requires
     element-write-q
-    position-requires
     mul-q
     element-write-q-2
     add-count
     add-comparisons
-    element-copy-out-answer
+    cell-requires
     answer-requires
     add-t
     loop-less

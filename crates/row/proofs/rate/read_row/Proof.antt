@@ -14,6 +14,7 @@ use Rattle.row.proofs.rate.read_row.Lts as lts
 use Rattle.row.proofs.rate.answer.Reads as answer-reads
 use Rattle.row.proofs.rate.empty.Reads as empty-reads
 use Rattle.row.proofs.position.Reads as position-reads
+use Rattle.queue.proofs.rate.cell.Reads as cell-reads
 use Rattle.queue.proofs.rate.room.Reads as room-reads
 
 abbrev Inv-loop : tie.InvT-loop
@@ -36,11 +37,14 @@ empty-requires c κs = search needs
 loop-holds : tie.Need-loop-holds Inv-loop μ-loop
 loop-holds c = (omega arith, refl, read-first rates _ _ _ _ _ _ (ap length (c .empty .ensures .0) ∙ refl) (ap length (c .empty .ensures .1) ∙ refl))
 
-mul-v : tie.Need-mul-v Inv-loop μ-loop
-mul-v c = omega arith
+mul-t19 : tie.Need-mul-t19 Inv-loop μ-loop
+mul-t19 c = omega arith
 
-slice-read-v : tie.Need-slice-read-v Inv-loop μ-loop
-slice-read-v c = omega arith
+slice-read-t21 : tie.Need-slice-read-t21 Inv-loop μ-loop
+slice-read-t21 c = omega arith
+
+position-requires : tie.Need-position-requires Inv-loop μ-loop
+position-requires c κs = search needs
 
 room-requires : tie.Need-room-requires Inv-loop μ-loop
 room-requires c κs = search needs
@@ -50,9 +54,6 @@ mul-q c = omega arith
 
 element-write-q : tie.Need-element-write-q Inv-loop μ-loop
 element-write-q c = omega arith
-
-position-requires : tie.Need-position-requires Inv-loop μ-loop
-position-requires c κs = search needs
 
 mul-q-2 : tie.Need-mul-q-2 Inv-loop μ-loop
 mul-q-2 c = omega arith
@@ -66,11 +67,8 @@ add-count c = omega arith
 add-comparisons : tie.Need-add-comparisons Inv-loop μ-loop
 add-comparisons c = omega arith
 
-mul-answer : tie.Need-mul-answer Inv-loop μ-loop
-mul-answer c = omega arith
-
-element-copy-out-answer : tie.Need-element-copy-out-answer Inv-loop μ-loop
-element-copy-out-answer c = omega arith
+cell-requires : tie.Need-cell-requires Inv-loop μ-loop
+cell-requires c κs = search needs
 
 answer-requires : tie.Need-answer-requires Inv-loop μ-loop
 answer-requires c κs = search needs
@@ -85,8 +83,12 @@ loop-again : tie.Need-loop-again Inv-loop μ-loop
 loop-again c = (
   omega arith,
   refl,
-  rw (c .before .before .answer .ensures, c .before .before .before .before .before .before .before .position .ensures)
-      (read-next rates _ _ _ _ _ _ _ _ _ _ _ (c .before .before .before .before .before .before .before .before .before .before .before .before .before .before .before .before .loop .inv .2) _ _ (c .before .before .before .before .before .before .before .before .room .result) (omega arith) (omega arith) (omega arith) refl (c .before .before .before .before .before .before .before .before .room .ensures) refl),
+  let s = c .before .before .before .before .before .before .before .before .before .before .before .before .before .before .before .before .before .before .before .before .before .before .before .before in
+      let i = c .before .before .before .before .before .before .before .before .before .before .before .before .before .before .before .before .before .before .before .before .before .loop .inv in
+      let e = c .before .before .before .before .before .before .before .before .before .before .before .before .before .before .before .before .before .before .position .ensures in
+      let r = c .before .before .before .before .before .before .before .before .before .before .before .before .room in
+      rw (c .before .before .answer .ensures, e)
+      (read-next rates _ _ _ _ _ _ _ _ _ _ _ (i .2) _ _ (r .result) (omega (arith, i .1, c .before .before .before .before .before .before .before .before .before .before .before .before .before .before .before .before .before .before .before .before .loop-test .taken)) (s .pre .0) (s .pre .1) refl (rw e at (r .ensures)) (c .before .before .before .before .cell .ensures .0)),
 )
 
 same-length : tie.Need-same-length Inv-loop μ-loop
@@ -105,18 +107,17 @@ read-row-spec =
     add-window-2
     empty-requires
     loop-holds
-    mul-v
-    slice-read-v
+    mul-t19
+    slice-read-t21
+    position-requires
     room-requires
     mul-q
     element-write-q
-    position-requires
     mul-q-2
     element-write-q-2
     add-count
     add-comparisons
-    mul-answer
-    element-copy-out-answer
+    cell-requires
     answer-requires
     add-t
     loop-less

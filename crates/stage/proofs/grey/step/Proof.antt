@@ -47,7 +47,8 @@ size-of-requires c κs = search needs
 
 fronts-requires : tie.Need-fronts-requires
 fronts-requires c κs =
-    fronts-ready greys _ _ _ _ _ _ _ _ (c .before .before .before .before .before .before .before .before .before .before .before .before .before .before .before .move-on .ensures) _ (c .before .before .before .size-of .ensures .0) (c .before .before .before .before .before .before .before .before .before .before .before .before .before .before .before .before .before .before .before .before .before .before .before .before .before .before .before .before .pre .3) (c .before .before .before .before .before .before .before .before .before .before .before .before .before .before .before .before .before .before .before .before .before .before .before .before .before .before .before .before .pre .2 .positions-long)
+    let s = c .before .before .before .before .before .before .before .before .before .before .before .before .before .before .before .before .before .before .before .before .before .before .before .before .before .before .before .before .before in
+    fronts-ready greys _ _ _ _ _ _ _ _ (c .before .before .before .before .before .before .before .before .before .before .before .before .before .before .before .before .move-on .ensures) _ (c .before .before .before .before .size-of .ensures .0) (s .pre .3) (s .pre .2 .positions-long)
 
 same-length-6 : tie.Need-same-length-6
 same-length-6 c = search needs
@@ -65,7 +66,7 @@ same-length-10 : tie.Need-same-length-10
 same-length-10 c = search needs
 
 returns-3 : tie.Need-returns-3
-returns-3 c = due-step greys _ _ _ _ _ _ _ _ (c .before .before .before .before .before .before .before .before .before .before .before .before .before .before .before .before .before .before .move-on .ensures) _ (rw (c .before .before .before .before .before .before .size-of .ensures .0) at (c .before .before .fronts .ensures))
+returns-3 c = due-step greys _ _ _ _ _ _ _ _ (c .before .before .before .before .before .before .before .before .before .before .before .before .before .before .before .before .before .before .before .move-on .ensures) _ (rw (c .before .before .before .before .before .before .before .size-of .ensures .0) at (c .before .before .fronts .ensures))
 
 pub step-spec : {M : Type 1} → statement M
 step-spec =
