@@ -153,7 +153,17 @@ fn read_on(line: Line, v: u8) -> Stepped
         value: v,
         position: row::position(t),
     };
-    let r = queue::grey::room(kind, window, &q.values, &q.positions, start, count, e);
+    let behind = queue::slot(start, count, 63);
+    let r = queue::grey::room(
+        kind,
+        window,
+        &q.values,
+        &q.positions,
+        start,
+        count,
+        behind,
+        e,
+    );
     let at = r.at;
     q.values[at] = e.value;
     q.positions[at] = e.position;

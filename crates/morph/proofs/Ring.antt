@@ -33,12 +33,27 @@ wrap-ne n j k h l m =
     (λ p. split (ltb k n) (λ q. rw (p, q) (omega arith)) (λ q. rw (p, q) (omega (arith, ltb-true, ltb-false))))
     (λ p. split (ltb k n) (λ q. absurd (omega (arith, ltb-true, ltb-false))) (λ q. rw (p, q) (omega (arith, ltb-false))))
 
-wrap-add : (n j i : ℕ) → j + i < n + n → wrap n (wrap n j + i) ≡ wrap n (j + i)
+pub wrap-add : (n j i : ℕ) → j + i < n + n → wrap n (wrap n j + i) ≡ wrap n (j + i)
 unfolding wrap
 wrap-add n j i h =
     split (ltb j n)
     (λ p. rw p)
     (λ p. rw (p, lt-ltb (j - n + i) n (omega (arith, ltb-false)), le-ltb (j + i) n (omega (arith, ltb-false))) (omega (arith, ltb-false)))
+
+-- one place has one before it
+pub wrap-one : (n i j : ℕ) → i < n → j < n → wrap n (i + 1) ≡ wrap n (j + 1) → i ≡ j
+unfolding wrap
+wrap-one n i j h k e =
+    split (ltb (i + 1) n)
+    (λ p. split (ltb (j + 1) n) (λ q. omega (arith, rw (p, q) at e)) (λ q. omega (arith, ltb-true, ltb-false, rw (p, q) at e)))
+    (λ p. split (ltb (j + 1) n) (λ q. omega (arith, ltb-true, ltb-false, rw (p, q) at e)) (λ q. omega (arith, ltb-false, rw (p, q) at e)))
+
+-- the place before that of entry k + 1 is that of entry k; d stands for k + 1
+pub wrap-before : (n start d i : ℕ) → start < n → 0 < d → d ≤ n → i < n → wrap n (i + 1) ≡ wrap n (start + d) → i ≡ wrap n (start + (d - 1))
+wrap-before n start d i h k l m e =
+    let s : start + (d - 1) + 1 ≡ start + d = omega arith in
+    wrap-one n i (wrap n (start + (d - 1))) m (wrap-lt n (start + (d - 1)) (omega arith))
+    (e ∙ ap (wrap n) (sym s) ∙ sym (wrap-add n (start + (d - 1)) 1 (omega arith)))
 
 module _ {B : Type 0} (n start : ℕ) (cell : ℕ → B) where
   pub ring-length : (len : ℕ) → length (ring n start len cell) ≡ len

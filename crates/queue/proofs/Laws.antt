@@ -17,7 +17,7 @@ use Rattle.morph.specs.Step.{popped, roomed, stepped, stepCost}
 use Rattle.morph.specs.Ring.{wrap, ring, cellAt, entries}
 use Rattle.morph.proofs.Lists.{split}
 use Rattle.morph.proofs.Step.{Popping, pop-start, pop-more, pop-stop, pop-end}
-use Rattle.morph.proofs.Ring.{wrap-low, ring-length, ring-at, ring-take, ring-drop, ring-push}
+use Rattle.morph.proofs.Ring.{wrap-low, wrap-lt, wrap-add, ring-length, ring-at, ring-take, ring-drop, ring-push}
 use Rattle.morph.specs.declared.Kind.{Kind}
 use Rattle.sample.specs.Samples.{Samples}
 use Rattle.queue.specs.Queue.{goesOf, listed, Roomed, Pushed}
@@ -108,54 +108,69 @@ module _ {A : Type 0} where
         let f : other at ≡ record { value = v; position = t } = rw (getD-set-same vs at v blank (omega arith), getD-set-same ps at t 0 (omega arith)) in
         rw add-one (p ∙ ap (λ r. ring n start count (cellAt blank vs ps) ++ (r ∷ [])) (ap other (sym e) ∙ f))
 
-  -- ---- the popping loop, which reads values alone: p entries are gone, whatever the positions are
+  -- ---- the popping loop, which reads values alone: so many entries are left, whatever the positions are
 
   module _ (f : A → Bool) (blank : A) (n start count : ℕ) (vs : List A) where
-    unfoldable pub Gone : ℕ → Type 0
-    Gone p = (ps : List ℕ) → Popping f (entries blank n start count vs ps) (count - p) p
+    unfoldable pub Left : ℕ → Type 0
+    Left left = (ps : List ℕ) → Popping f (entries blank n start count vs ps) left (count - left)
 
-    pub gone-start : Gone 0
-    unfolding Gone
-    gone-start ps = rw sub-zero (subst (λ m. Popping f (entries blank n start count vs ps) m 0) (listed-length blank n vs ps start count) (pop-start f (entries blank n start count vs ps)))
+    pub left-all : Left count
+    unfolding Left
+    left-all ps =
+        let z : count - count ≡ 0 = omega arith in
+        rw z (subst (λ m. Popping f (entries blank n start count vs ps) m 0) (listed-length blank n vs ps start count) (pop-start f (entries blank n start count vs ps)))
 
-    pub gone-end : (p : ℕ) → count ≤ p → Gone p → (ps : List ℕ) → p ≡ popped f (entries blank n start count vs ps)
-    unfolding Gone
-    gone-end p h g ps = let z : count - p ≡ 0 = omega arith in sym (pop-end f (entries blank n start count vs ps) p (rw z at (g ps)))
+    pub left-none : (left : ℕ) → left ≡ 0 → Left left → (ps : List ℕ) → count - left ≡ popped f (entries blank n start count vs ps)
+    unfolding Left
+    left-none left z g ps = sym (pop-end f (entries blank n start count vs ps) (count - left) (subst (λ m. Popping f (entries blank n start count vs ps) m (count - left)) z (g ps)))
 
     -- i is the place of the last that is left
-    module _ (p i : ℕ) (h : p < count) (e : i ≡ wrap n (start + (count - 1 - p))) (g : Gone p) where
-      last-value : (ps : List ℕ) → (getD (entries blank n start count vs ps) (count - 1 - p) (cellAt blank vs ps i)) .value ≡ getD vs i blank
-      last-value ps = ap (λ r. r .value) (listed-at blank n vs ps start count (count - 1 - p) i (cellAt blank vs ps i) (omega arith) (sym e))
+    module _ (left i : ℕ) (h : 0 < left) (l : left ≤ count) (e : i ≡ wrap n (start + (left - 1))) (g : Left left) where
+      last-value : (ps : List ℕ) → (getD (entries blank n start count vs ps) (left - 1) (cellAt blank vs ps i)) .value ≡ getD vs i blank
+      last-value ps = ap (λ r. r .value) (listed-at blank n vs ps start count (left - 1) i (cellAt blank vs ps i) (omega arith) (sym e))
 
-      pub gone-more : f (getD vs i blank) ≡ true → Gone (p + 1)
-      unfolding Gone
-      gone-more t ps =
-          let m : count - (p + 1) ≡ count - 1 - p = omega arith in
-          rw m (pop-more f (entries blank n start count vs ps) (count - p) (count - 1 - p) p (cellAt blank vs ps i) (omega arith) (g ps) (ap f (last-value ps) ∙ t))
+      pub left-more : f (getD vs i blank) ≡ true → Left (left - 1)
+      unfolding Left
+      left-more t ps =
+          let m : count - (left - 1) ≡ count - left + 1 = omega arith in
+          rw m (pop-more f (entries blank n start count vs ps) left (left - 1) (count - left) (cellAt blank vs ps i) (omega arith) (g ps) (ap f (last-value ps) ∙ t))
 
-      pub gone-stop : f (getD vs i blank) ≡ false → (ps : List ℕ) → p ≡ popped f (entries blank n start count vs ps)
-      unfolding Gone
-      gone-stop t ps = sym (pop-stop f (entries blank n start count vs ps) (count - p) (count - 1 - p) p (cellAt blank vs ps i) (omega arith) (g ps) (ap f (last-value ps) ∙ t))
+      pub left-stop : f (getD vs i blank) ≡ false → (ps : List ℕ) → count - left ≡ popped f (entries blank n start count vs ps)
+      unfolding Left
+      left-stop t ps = sym (pop-stop f (entries blank n start count vs ps) left (left - 1) (count - left) (cellAt blank vs ps i) (omega arith) (g ps) (ap f (last-value ps) ∙ t))
 
 -- ---- room for one more, from what the code finds on the way
 
-pub room-found : {A : Type 0} (K : Samples A) (kind : Kind) (w t : ℕ) (v : A) (vs : List A) (ps : List ℕ) (start count p gone first at more : ℕ)
-    → start < length vs → 0 < w → count ≤ w → w ≤ length vs → p ≡ popped (K .passes kind v) (listed K vs ps start count) → p ≤ count
-    → gone ≡ goesOf w t (count - p) (getD ps start 0) → first ≡ wrap (length vs) (start + gone) → first < length vs
-    → at ≡ wrap (length vs) (first + (count - p - gone)) → at < length vs → more ≡ min 1 (count - p)
-    → Roomed K kind w t v vs ps start count (record { start = first; count = count - p - gone; at = at; comparisons = p + more })
-unfolding stepCost
-room-found K kind w t v vs ps start count p gone first at more a z b c e h g f i k m o =
-    let (_, _, few) = goes-few w t (count - p) (getD ps start 0) z (omega arith) in
-    record {
-      below = i;
-      fits = omega arith;
-      behind = k;
-      inside = m;
-      stays = rw (f, ← e) (listed-stays (K .order .blank) (length vs) vs ps w t start count p gone a z b c h g);
-      counted = rw (listed-length, ← e, o);
-      few = omega arith;
-    }
+module _ {A : Type 0} (K : Samples A) (kind : Kind) (w t : ℕ) (v : A) (vs : List A) (ps : List ℕ) (start count left gone behind more : ℕ) (a : start < length vs) (z : 0 < w) (b : count ≤ w)
+    (c : w ≤ length vs) (e : count - left ≡ popped (K .passes kind v) (listed K vs ps start count)) (h : left ≤ count) (g : gone ≡ goesOf w t left (getD ps start 0))
+    (k : behind ≡ wrap (length vs) (start + left)) (o : more ≡ min 1 left) where
+  room-found : (first : ℕ) → first ≡ wrap (length vs) (start + gone) → Roomed K kind w t v vs ps start count (record { start = first; count = left - gone; at = behind; comparisons = count - left + more })
+  unfolding stepCost
+  room-found first f =
+      let s : count - (count - left) ≡ left = omega arith in
+      let (one, some, few) = goes-few w t left (getD ps start 0) z (omega arith) in
+      let n : start + gone + (left - gone) ≡ start + left = omega arith in
+      let g′ : gone ≡ goesOf w t (count - (count - left)) (getD ps start 0) = rw s g in
+      record {
+        below = rw f (wrap-lt (length vs) (start + gone) (omega arith));
+        fits = omega arith;
+        behind = k ∙ ap (wrap (length vs)) (sym n) ∙ sym (wrap-add (length vs) (start + gone) (left - gone) (omega arith)) ∙ ap (λ j. wrap (length vs) (j + (left - gone))) (sym f);
+        inside = rw k (wrap-lt (length vs) (start + left) (omega arith));
+        stays = rw (f, ← e, s) (rw s at (listed-stays (K .order .blank) (length vs) vs ps w t start count (count - left) gone a z b c (omega arith) g′));
+        counted = rw (listed-length, ← e, s, o);
+        few = omega arith;
+      }
+
+  -- none of the oldest goes
+  pub room-kept : gone ≡ 0 → Roomed K kind w t v vs ps start count (record { start = start; count = left; at = behind; comparisons = count - left + more })
+  room-kept y =
+      let s : start + gone ≡ start = omega arith in
+      let l : left - gone ≡ left = omega arith in
+      rw l at (room-found start (rw s (sym (wrap-low (length vs) start a))))
+
+  -- one goes
+  pub room-aged : (first : ℕ) → gone ≢ 0 → gone ≤ 1 → first ≡ wrap (length vs) (start + 1) → Roomed K kind w t v vs ps start count (record { start = first; count = left - 1; at = behind; comparisons = count - left + more })
+  room-aged first y m f = let u : gone ≡ 1 = omega arith in rw u at (room-found first (rw u f))
 
 -- storing the new entry at the room's place makes the next queue
 pub room-stored : {A : Type 0} (K : Samples A) (kind : Kind) (w t : ℕ) (v : A) (vs : List A) (ps : List ℕ) (start count : ℕ) (r : Room) → Roomed K kind w t v vs ps start count r

@@ -11,6 +11,12 @@ ghost use Rattle.queue.specs.Queue.{goesOf};
 pub mod grey; // grey.rt: queues of grey bytes
 pub mod rate; // rate.rt: queues of floats
 
+// How many entries a new value leaves unpassed, and the place behind them.
+pub struct Kept {
+    pub count: usize,
+    pub behind: usize,
+}
+
 // Where a new entry goes, what stays before it, and the comparisons made.
 pub struct Room {
     pub start: usize,
@@ -33,6 +39,14 @@ pub fn slot(start: usize, k: usize, places: usize) -> usize
 {
     let i = start + k;
     if i < places { i } else { i - places }
+}
+
+// The place before place i.
+pub fn previous(i: usize, places: usize) -> usize
+    requires { ⌜ (i < places) × (places ≤ 63) ⌝ }
+    ensures { λ r. ⌜ (r < places) × (wrap places (r + 1) ≡ i) ⌝ }
+{
+    if i == 0 { places - 1 } else { i - 1 }
 }
 
 // A position as a number to reckon with.

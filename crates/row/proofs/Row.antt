@@ -18,6 +18,7 @@ use Rattle.morph.specs.Step.{stepped, stepCost, roomed}
 use Rattle.morph.specs.Ring.{wrap}
 use Rattle.morph.proofs.Lists.{split, each-in, each-getD, in-each}
 use Rattle.morph.proofs.Line.{queue-start, queue-length, queue-some, queue-sound, length-line, line-at, output-front, cost-read, cost-drain}
+use Rattle.morph.proofs.Ring.{wrap-add}
 use Rattle.morph.proofs.Step.{step-read, step-drain, step-cost}
 use Rattle.sample.specs.Samples.{Samples}
 use Rattle.queue.specs.Queue.{listed, Roomed, goesOf}
@@ -217,3 +218,9 @@ module _ {A : Type 0} (K : Samples A) (back ahead : ℕ) (row′ : List A) (vs :
         let l : length row + ahead ≡ t = omega (arith, r .long) in
         read-last K kind back ahead row (length row) c row′ row″ vs vs ps ps start start′ count count′ c refl r (rw l (h .reads kind row c r)),
   )
+
+-- ---- the place behind the last, which the loop carries along
+
+pub behind-next : (n : ℕ) (r : Room) → r .at ≡ wrap n (r .start + r .count) → r .start < n → r .count < n → wrap n (r .at + 1) ≡ wrap n (r .start + (r .count + 1))
+behind-next n r e h k =
+    let s : r .start + r .count + 1 ≡ r .start + (r .count + 1) = omega arith in ap (λ j. wrap n (j + 1)) e ∙ wrap-add n (r .start + r .count) 1 (omega arith) ∙ ap (wrap n) s

@@ -44,16 +44,17 @@ fn answer(row: &mut [u8], ahead: usize, t: usize, v: u8)
     }
 }
 
-// The steps that read: the queue is written where it lies, and a row's answers go where its pixels have been read.
-fn read_row(kind: Kind, back: usize, ahead: usize, row: &mut [u8]) -> Passed
+// The steps that read, into a queue that starts empty in the room given: it is written where it lies, and a row's answers go where its pixels have been read.
+fn read_row(kind: Kind, room: RowQueue, back: usize, ahead: usize, row: &mut [u8]) -> Passed
     requires { ⌜ (back ≤ 31) × (ahead ≤ 31) × (length (now row) ≤ 65535) ⌝ }
     ensures { λ r. ⌜ Read greys kind back ahead (now (row .entry)) (length (now (row .entry))) (now (row .exit)) (r .queue .values) (r .queue .positions) (r .queue .start) (r .queue .count) (r .comparisons) ⌝ }
 {
     let window = back + ahead + 1;
     let n = row.len();
-    let mut q = empty();
+    let mut q = room;
     let mut start = 0;
     let mut count = 0;
+    let mut behind = 0;
     let mut comparisons = 0;
     let mut t = 0;
     while t < n {
@@ -61,12 +62,22 @@ fn read_row(kind: Kind, back: usize, ahead: usize, row: &mut [u8]) -> Passed
             value: row[t],
             position: crate::position(t),
         };
-        let r = queue::grey::room(kind, window, &q.values, &q.positions, start, count, e);
+        let r = queue::grey::room(
+            kind,
+            window,
+            &q.values,
+            &q.positions,
+            start,
+            count,
+            behind,
+            e,
+        );
         let at = r.at;
         q.values[at] = e.value;
         q.positions[at] = e.position;
         start = r.start;
         count = r.count + 1;
+        behind = queue::slot(at, 1, 63);
         comparisons += r.comparisons;
         let front = queue::grey::cell(&q.values, &q.positions, start);
         answer(row, ahead, t, front.value);
@@ -101,23 +112,25 @@ fn drain_row(q: RowQueue, back: usize, ahead: usize, row: &mut [u8])
     }
 }
 
-fn pass(kind: Kind, back: usize, ahead: usize, row: &mut [u8]) -> usize
+// All pixels are read. The kind is chosen here once, by a literal, so that no loop has to ask for it.
+fn read_all(kind: Kind, back: usize, ahead: usize, row: &mut [u8]) -> Passed
     requires { ⌜ (back ≤ 31) × (ahead ≤ 31) × (length (now row) ≤ 65535) ⌝ }
-    ensures { λ r. ⌜ Across greys kind back ahead (now (row .entry)) (now (row .exit)) r ⌝ }
+    ensures { λ r. ⌜ Read greys kind back ahead (now (row .entry)) (length (now (row .entry))) (now (row .exit)) (r .queue .values) (r .queue .positions) (r .queue .start) (r .queue .count) (r .comparisons) ⌝ }
 {
-    let passed = read_row(kind, back, ahead, row);
-    let q = passed.queue;
-    drain_row(q, back, ahead, row);
-    passed.comparisons
+    let q = empty();
+    match kind {
+        Kind::Erosion => read_row(Kind::Erosion, q, back, ahead, row),
+        Kind::Dilation => read_row(Kind::Dilation, q, back, ahead, row),
+    }
 }
 
-// A row filtered in place; the comparisons made. The kind is chosen here once, so that no loop has to ask for it.
+// A row filtered in place; the comparisons made.
 pub fn across(kind: Kind, back: usize, ahead: usize, row: &mut [u8]) -> usize
     requires { ⌜ (back ≤ 31) × (ahead ≤ 31) × (length (now row) ≤ 65535) ⌝ }
     ensures { λ r. ⌜ Across greys kind back ahead (now (row .entry)) (now (row .exit)) r ⌝ }
 {
-    match kind {
-        Kind::Erosion => pass(Kind::Erosion, back, ahead, row),
-        Kind::Dilation => pass(Kind::Dilation, back, ahead, row),
-    }
+    let passed = read_all(kind, back, ahead, row);
+    let q = passed.queue;
+    drain_row(q, back, ahead, row);
+    passed.comparisons
 }

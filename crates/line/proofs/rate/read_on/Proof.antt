@@ -1,6 +1,9 @@
 -- `read_on` meets its contract, by the law of proofs/Steps.antt.
-use mathlib.Core.Path.{_≡_}
+use mathlib.Core.Path.{_≡_, sym, ap, _∙_}
+use Prim.Native.Nat.{_+_}
+use native.Mathlib.Omega.{arith}
 use lib.ListN.{length}
+use Rattle.morph.specs.Ring.{wrap}
 use Rattle.sample.specs.Samples.{rates}
 use Rattle.line.specs.Rate.{stateOf}
 use Rattle.line.proofs.Steps.{read-accepts}
@@ -12,6 +15,7 @@ use Rattle.line.proofs.rate.read_on.Lts as lts
 use Rattle.line.proofs.rate.step_on.Reads as step-on-reads
 use Rattle.line.proofs.judge.window.Reads as window-reads
 use Rattle.queue.proofs.rate.room.Reads as room-reads
+use Rattle.queue.proofs.slot.Reads as slot-reads
 use Rattle.row.proofs.position.Reads as position-reads
 
 window-requires : tie.Need-window-requires
@@ -20,8 +24,18 @@ window-requires c κs = search needs
 position-requires : tie.Need-position-requires
 position-requires c κs = search needs
 
+slot-requires : tie.Need-slot-requires
+slot-requires c κs = let h = c .before .before .before .pre .0 in (h .below, omega (arith, h .fits, h .back-fits, h .ahead-fits), omega arith)
+
 room-requires : tie.Need-room-requires
-room-requires c κs = search needs
+room-requires c κs =
+    let a = c .before .before .before .before .before .before .before .before .before .args .line in
+    let h = c .before .before .before .before .before .before .before .before .before .pre .0 in
+    let w = c .before .before .before .before .before .before .before .window .ensures .0 in
+    let l : length (a .queue .values) ≡ 63 = search needs in
+    let m : length (a .queue .positions) ≡ 63 = search needs in
+    let b = c .before .before .before .before .before .slot .ensures .0 ∙ ap (λ n. wrap n (a .queue .start + a .queue .count)) (sym l) in
+    (omega (arith, h .below), omega (arith, h .fits), omega arith, omega (arith, h .back-fits, h .ahead-fits), omega arith, m ∙ sym l, b)
 
 mul-q : tie.Need-mul-q
 mul-q c = search needs
@@ -43,13 +57,13 @@ step-on-requires c κs = search needs
 
 returns : tie.Need-returns
 returns c =
-    let a = c .before .before .before .before .before .before .before .before .before .before .before .args .line in
-    let h = c .before .before .before .before .before .before .before .before .before .before .before .pre in
-    let e = c .before .before .before .before .before .before .before .before .position .ensures in
+    let a = c .before .before .before .before .before .before .before .before .before .before .before .before .args .line in
+    let h = c .before .before .before .before .before .before .before .before .before .before .before .before .pre in
+    let e = c .before .before .before .before .before .before .before .before .before .position .ensures in
     let r = c .before .before .room in
     let l : length (a .queue .values) ≡ 63 = search needs in
     let m : length (a .queue .positions) ≡ 63 = search needs in
-    read-accepts rates (stateOf a) (h .0) (h .1) l m _ (r .result) _ _ (c .before .before .before .before .before .before .before .before .before .window .ensures .0) e (rw e at (r .ensures)) _ _ (c .step-on .ensures .1) (c .step-on .ensures .0)
+    read-accepts rates (stateOf a) (h .0) (h .1) l m _ (r .result) _ _ (c .before .before .before .before .before .before .before .before .before .before .window .ensures .0) e (rw e at (r .ensures)) _ _ (c .step-on .ensures .1) (c .step-on .ensures .0)
 
 pub read-on-spec : {M : Type 1} → statement M
 read-on-spec =
@@ -57,6 +71,7 @@ read-on-spec =
     (tie.spec
     window-requires
     position-requires
+    slot-requires
     room-requires
     mul-q
     element-write-q

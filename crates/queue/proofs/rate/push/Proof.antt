@@ -8,6 +8,10 @@ use Rattle.queue.proofs.rate.push.Tie as tie
 use Rattle.queue.proofs.rate.push.Reads as reads
 use Rattle.queue.proofs.rate.push.Lts as lts
 use Rattle.queue.proofs.rate.room.Reads as room-reads
+use Rattle.queue.proofs.slot.Reads as slot-reads
+
+slot-requires : tie.Need-slot-requires
+slot-requires c κs = search needs
 
 room-requires : tie.Need-room-requires
 room-requires c κs = search needs
@@ -24,8 +28,8 @@ mul-positions c = search needs
 slice-write-positions : tie.Need-slice-write-positions
 slice-write-positions c = search needs
 
-add-t14 : tie.Need-add-t14
-add-t14 c = search needs
+add-t15 : tie.Need-add-t15
+add-t15 c = search needs
 
 same-length : tie.Need-same-length
 same-length c = search needs
@@ -40,12 +44,13 @@ pub push-spec : {M : Type 1} → statement M
 push-spec =
     tie.close
     (tie.spec
+    slot-requires
     room-requires
     mul-values
     slice-write-values
     mul-positions
     slice-write-positions
-    add-t14
+    add-t15
     same-length
     same-length-2
     returns)
