@@ -41,6 +41,15 @@ pub fn slot(start: usize, k: usize, places: usize) -> usize
     if i < places { i } else { i - places }
 }
 
+// The place after place i.
+pub fn next(i: usize, places: usize) -> usize
+    requires { ⌜ (i < places) × (places ≤ 63) ⌝ }
+    ensures { λ r. ⌜ (r ≡ wrap places (i + 1)) × (r < places) ⌝ }
+{
+    let j = i + 1;
+    if j == places { 0 } else { j }
+}
+
 // The place before place i.
 pub fn previous(i: usize, places: usize) -> usize
     requires { ⌜ (i < places) × (places ≤ 63) ⌝ }

@@ -74,7 +74,7 @@ pub fn room<'a>(
         };
     }
     Room {
-        start: crate::slot(start, 1, places),
+        start: crate::next(start, places),
         count: left - 1,
         at: kept.behind,
         comparisons: comparisons,

@@ -77,7 +77,7 @@ fn read_row(kind: Kind, room: RowQueue, back: usize, ahead: usize, row: &mut [u8
         q.positions[at] = e.position;
         start = r.start;
         count = r.count + 1;
-        behind = queue::slot(at, 1, 63);
+        behind = queue::next(at, 63);
         comparisons += r.comparisons;
         let front = queue::grey::cell(&q.values, &q.positions, start);
         answer(row, ahead, t, front.value);

@@ -11,7 +11,7 @@ use Rattle.queue.proofs.grey.room.Lts as lts
 use Rattle.queue.proofs.any.Reads as any-reads
 use Rattle.queue.proofs.goes.Reads as goes-reads
 use Rattle.queue.proofs.grey.pop.Reads as pop-reads
-use Rattle.queue.proofs.slot.Reads as slot-reads
+use Rattle.queue.proofs.next.Reads as next-reads
 use Rattle.queue.proofs.wide.Reads as wide-reads
 
 pop-requires : tie.Need-pop-requires
@@ -38,8 +38,8 @@ returns c =
     let g = rw (c .before .before .wide .ensures .0) at (c .before .goes .ensures .0) in
     room-kept greys _ _ _ _ _ _ _ _ _ _ _ _ (omega arith) (omega arith) (omega arith) (omega arith) (p .ensures .0 _) (p .ensures .1) g (p .ensures .2) (c .before .before .before .any .ensures) (omega arith)
 
-slot-requires : tie.Need-slot-requires
-slot-requires c κs = search needs
+next-requires : tie.Need-next-requires
+next-requires c κs = search needs
 
 sub-t14 : tie.Need-sub-t14
 sub-t14 c = search needs
@@ -48,7 +48,7 @@ returns-2 : tie.Need-returns-2
 returns-2 c =
     let p = c .before .before .before .before .before .pop in
     let g = rw (c .before .before .before .wide .ensures .0) at (c .before .before .goes .ensures .0) in
-    room-aged greys _ _ _ _ _ _ _ _ _ _ _ _ (omega arith) (omega arith) (omega arith) (omega arith) (p .ensures .0 _) (p .ensures .1) g (p .ensures .2) (c .before .before .before .before .any .ensures) _ (c .before .if1 .left) (omega arith) (c .slot .ensures .0)
+    room-aged greys _ _ _ _ _ _ _ _ _ _ _ _ (omega arith) (omega arith) (omega arith) (omega arith) (p .ensures .0 _) (p .ensures .1) g (p .ensures .2) (c .before .before .before .before .any .ensures) _ (c .before .if1 .left) (omega arith) (c .next .ensures .0)
 
 pub room-spec : {M : Type 1} → statement M
 room-spec =
@@ -61,6 +61,6 @@ room-spec =
     wide-requires
     goes-requires
     returns
-    slot-requires
+    next-requires
     sub-t14
     returns-2)

@@ -17,7 +17,7 @@ use Rattle.row.proofs.grey.answer.Reads as answer-reads
 use Rattle.row.proofs.position.Reads as position-reads
 use Rattle.queue.proofs.grey.cell.Reads as cell-reads
 use Rattle.queue.proofs.grey.room.Reads as room-reads
-use Rattle.queue.proofs.slot.Reads as slot-reads
+use Rattle.queue.proofs.next.Reads as next-reads
 
 abbrev Inv-loop : tie.InvT-loop
 Inv-loop kind back ahead row₀ window n q₀ start₀ count₀ behind₀ comparisons₀ t₀ row q start count behind comparisons t =
@@ -64,8 +64,8 @@ element-write-q-2 c = omega arith
 add-count : tie.Need-add-count Inv-loop μ-loop
 add-count c = omega arith
 
-slot-requires : tie.Need-slot-requires Inv-loop μ-loop
-slot-requires c κs = search needs
+next-requires : tie.Need-next-requires Inv-loop μ-loop
+next-requires c κs = search needs
 
 add-comparisons : tie.Need-add-comparisons Inv-loop μ-loop
 add-comparisons c = omega arith
@@ -92,7 +92,7 @@ loop-again c =
     let w = i .3 .values-long in (
       omega (arith, c .before .before .before .before .before .before .before .before .before .before .before .before .before .before .before .before .before .before .before .before .before .loop-test .taken),
       refl,
-      c .before .before .before .before .before .before .before .before .before .before .before .slot .ensures .0 ∙ behind-next 63 (r .result) (m .behind ∙ ap (λ n. wrap n (r .result .start + r .result .count)) w) (omega (arith, m .below)) (omega (arith, m .fits, s .pre .0, s .pre .1)),
+      c .before .before .before .before .before .before .before .before .before .before .before .next .ensures .0 ∙ behind-next 63 (r .result) (m .behind ∙ ap (λ n. wrap n (r .result .start + r .result .count)) w) (omega (arith, m .below)) (omega (arith, m .fits, s .pre .0, s .pre .1)),
       rw (c .before .before .answer .ensures, e)
           (read-next greys _ _ _ _ _ _ _ _ _ _ _ (i .3) _ _ (r .result) (omega (arith, i .1, c .before .before .before .before .before .before .before .before .before .before .before .before .before .before .before .before .before .before .before .before .before .loop-test .taken)) (s .pre .0) (s .pre .1) refl (rw e at m) (c .before .before .before .before .cell .ensures .0)),
     )
@@ -119,7 +119,7 @@ read-row-spec =
     mul-q
     element-write-q-2
     add-count
-    slot-requires
+    next-requires
     add-comparisons
     cell-requires
     answer-requires
