@@ -1,8 +1,8 @@
 -- The laws of a plan's step on the memory lent. By which idea: a stage's row t - F is row t - F of the picture that the stages behind it see, one look-ahead later.
 use mathlib.Core.Path.{_≡_, refl, sym, ap, _∙_, subst}
-use mathlib.Core.Bool.{Bool, true, false, cond, _&&_}
+use mathlib.Core.Bool.{Bool, true, false}
 use mathlib.Core.List.{List, [], _∷_, _++_, append-nil, map}
-use Prim.Native.Nat.{ℕ, zero, suc, _+_, _-_, _*_, _≤_, _<_}
+use Prim.Native.Nat.{ℕ, _+_, _-_, _≤_, _<_}
 use native.Mathlib.Nat.{sub-zero, add-zero}
 use native.Mathlib.Numerals.{add-one}
 use native.Mathlib.Omega.{arith}
@@ -12,20 +12,18 @@ use borrow.Rule.Slice.PartAt.{part-to-end}
 use lib.Dec.{leb}
 use lib.ListN.{length, getD, take, drop, length-append, length-take, length-drop, drop-of-length-le}
 use lib.Seq.{length-take-le, take-at, drop-at, drop-cons, drop-length, getD-take}
-use Rattle.morph.specs.Order.{Order}
-use Rattle.morph.specs.Lists.{Each}
 use Rattle.morph.specs.Picture.{Picture, applyStage, applyPlan}
-use Rattle.morph.specs.Plan.{stageCost, planCost}
+use Rattle.morph.specs.Plan.{planCost}
 use Rattle.morph.proofs.Lists.{split, both}
 use Rattle.morph.proofs.Picture.{stage-wide, stage-length, stage-each}
 use Rattle.sample.specs.Samples.{Samples}
-use Rattle.columns.specs.Columns.{Lent, Sound, soundRecords}
+use Rattle.columns.specs.Columns.{Lent, soundRecords}
 use Rattle.columns.proofs.Records.{test-sound, sound-test}
 use Rattle.plan.specs.declared.Stage.{Stage}
 use Rattle.plan.specs.declared.Plan.{Plan}
-use Rattle.plan.specs.Plan.{Small, used, unused, filterOf, sizeOf, belowOf, cellsOf, total}
+use Rattle.plan.specs.Plan.{used, unused, filterOf, sizeOf, belowOf, cellsOf, total}
 use Rattle.plan.proofs.Laws.{mul-most}
-use Rattle.stage.specs.Stage.{Memory, Whole, StageHolds, StageMoved, StageStep}
+use Rattle.stage.specs.Stage.{Memory, Whole, StageHolds, StageStep}
 use Rattle.chain.specs.Run.{after, allSound, frontOf, behind, Ready, Begins, Leaves, Fronted, Holds, PlanStep}
 
 -- two parts as long as each other

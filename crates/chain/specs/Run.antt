@@ -5,7 +5,6 @@ use mathlib.Core.List.{List, [], _∷_, map}
 use Prim.Native.Nat.{ℕ, _+_, _-_, _*_, _≤_, _<_}
 use lib.Dec.{leb}
 use lib.ListN.{length, getD, take, drop}
-use Rattle.morph.specs.Order.{Order}
 use Rattle.morph.specs.Lists.{Each}
 use Rattle.morph.specs.Picture.{Picture, applyStage, applyPlan}
 use Rattle.morph.specs.Plan.{planCost}
@@ -14,7 +13,7 @@ use Rattle.columns.specs.Columns.{soundRecords}
 use Rattle.plan.specs.declared.Stage.{Stage}
 use Rattle.plan.specs.declared.Plan.{Plan}
 use Rattle.plan.specs.Plan.{Small, used, filterOf, sizeOf, belowOf, cellsOf, total}
-use Rattle.stage.specs.Stage.{Memory, Whole, StageHolds, StageMoved, StageStep}
+use Rattle.stage.specs.Stage.{Memory, Whole, StageHolds, StageStep}
 
 -- the stages of a plan from stage i on
 abbrev pub after : ℕ → Plan → List Stage

@@ -1,10 +1,8 @@
 // Plans over floats.
 
 ghost use mathlib.Core.Path.{_≡_};
-ghost use mathlib.Core.Bool.{true};
-ghost use mathlib.Core.List.{_∷_};
-ghost use Prim.Native.Nat.{ℕ, _+_, _*_, _≤_, _<_};
-ghost use lib.ListN.{length, getD};
+ghost use Prim.Native.Nat.{_≤_};
+ghost use lib.ListN.{length};
 ghost use Rattle.sample.specs.Samples.{rates};
 ghost use Rattle.plan.specs.Plan.{belowOf, cellsOf};
 ghost use Rattle.chain.specs.Run.{Leaves, Begins, Ready, after, Fronted, PlanStep};

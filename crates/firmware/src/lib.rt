@@ -2,7 +2,6 @@
 // From C a row is a pointer and then a length. The two rows may not overlap; nothing past either row is read or written.
 
 ghost use mathlib.Core.Path.{_≡_};
-ghost use lib.ListN.{length};
 ghost use Rattle.firmware.specs.Row.{rowNumber, FiltersRow};
 
 // The number of a call, 0 where it is accepted, of rows of these two lengths.

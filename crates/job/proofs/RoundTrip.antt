@@ -11,20 +11,20 @@ use lib.Dec.{ltb}
 use lib.ListN.{length, getD, take, drop, replicate, length-append, length-drop, take-append-drop}
 use lib.Seq.{getD-drop, getD-take, take-add, take-at, drop-at}
 use Rattle.morph.specs.Lists.{tabulate}
-use Rattle.morph.proofs.Lists.{split, length-tabulate, tabulate-ext}
+use Rattle.morph.proofs.Lists.{split, neither, length-tabulate, tabulate-ext}
 use Rattle.morph.specs.declared.Kind.{Kind}
 use Rattle.morph.specs.declared.Kind.the-variants.{Erosion, Dilation}
 use Rattle.plan.specs.declared.Stage.{Stage}
 use Rattle.plan.specs.declared.Plan.{Plan}
-use Rattle.plan.specs.Numbers.{given, firstOf}
+use Rattle.plan.specs.Numbers.{given, firstOf, sampleNumber, sizeNumber}
 use Rattle.plan.specs.Plan.{unused, planOf, used, countNumber, kindNumber, extentNumber, kindFrom, recordStageNumber, recordStagesNumber, recordNumber, stageFrom, stageNumber, stagesFrom, stagesNumber, planNumber, withExtents}
-use Rattle.plan.proofs.Numbers.{first-one, first-skip, first-zero, all-zero, given-zero, neither}
+use Rattle.plan.proofs.Numbers.{first-one, first-skip, first-zero, all-zero, given-zero}
 use Rattle.plan.proofs.Laws.{used-plan, count-accepted, count-zero}
 use Rattle.plan.proofs.Named.{judged-count, judged-reading}
 use Rattle.job.specs.declared.Job.{Job}
 use Rattle.job.specs.declared.JobRead.{JobRead}
 use Rattle.job.specs.Layout.{kindByte, stageBytes, stagesBytes, planBytes, headBytes, encode, rowBytes, headAt, rowsAt, widthFrom, rowsFrom, jobFrom, Valid, IsJob}
-use Rattle.job.specs.Job.{planSectionNumber, sizeNumber, headNumber, headSectionNumber, rowsNumber, jobNumber, jobRead}
+use Rattle.job.specs.Job.{planSectionNumber, headNumber, headSectionNumber, rowsNumber, jobNumber, jobRead}
 use Rattle.job.specs.View.{rowAt, thereTo, viewNumber}
 use Rattle.job.specs.declared.Written.{Written}
 use Rattle.job.specs.declared.Written.the-variants.{Bytes}
@@ -186,6 +186,9 @@ numbers-again (s ∷ ss) ys h =
     ∙ first-skip (stageNumber (stagesBytes (s ∷ ss) ++ ys) 0) (tabulate (length ss) (λ k. stageNumber (stagesBytes ss ++ ys) (k * 5))) first
     ∙ numbers-again ss ys (λ i k. h (suc i) (omega arith))
 
+sample-fine : (s : ℕ) → s ≤ 1 → sampleNumber s ≡ 0
+sample-fine s h = simp (le-ltb 1 s h)
+
 size-fine : (w h : ℕ) → 1 ≤ w → w ≤ 4096 → 1 ≤ h → h ≤ 65535 → 0 ≡ sizeNumber w h
 size-fine w h a b c d = simp (ne-eqb w 0 (λ z. omega arith), le-ltb 4096 w b, ne-eqb h 0 (λ z. omega arith), le-ltb 65535 h d)
 
@@ -271,7 +274,7 @@ module _ (bytes : List ℕ) (job : Job) (is : IsJob bytes job) where
       let v = is .valid in
       let l = length-bytes in
       let k = count-again in
-      let h : 0 ≡ headNumber after = head-size after (v .sample) (sym (two-again (job .width))) (sym (two-again (job .rows))) (size-fine (job .width) (job .rows) (v .some-width) (v .width) (v .some-rows) (v .rows)) in
+      let h : 0 ≡ headNumber after = head-size after (sample-fine (job .sample) (v .sample)) (sym (two-again (job .width))) (sym (two-again (job .rows))) (size-fine (job .width) (job .rows) (v .some-width) (v .width) (v .some-rows) (v .rows)) in
       sym (section-head bytes (headAt (getD bytes 0 0)) (omega arith)) ∙ ap headNumber head-bytes ∙ sym h
 
   rows-accepted : rowsNumber bytes (jobFrom bytes) ≡ 0
@@ -302,7 +305,7 @@ read-complete bytes job e is = e ∙ sym (job-accepted bytes (sym (accepted byte
 module _ (job : Job) (out : List ℕ) (valid : Valid job) (room : rowsAt (job .plan .count) ≤ length out) where
   write-accepted : 0 ≡ writeNumber job out
   write-accepted =
-      write-fine job out (valid .plan) (valid .sample) (sym (size-fine (job .width) (job .rows) (valid .some-width) (valid .width) (valid .some-rows) (valid .rows))) room
+      write-fine job out (valid .plan) (sample-fine (job .sample) (valid .sample)) (sym (size-fine (job .width) (job .rows) (valid .some-width) (valid .width) (valid .some-rows) (valid .rows))) room
 
   places : job .plan .count ≤ length (job .plan .stages)
   places =

@@ -1,27 +1,26 @@
 -- Laws of the readers: the number of each group by its tests, and what holds where a group is accepted.
 use mathlib.Core.Path.{_≡_, refl, sym, ap, _∙_}
-use mathlib.Core.Bool.{_||_}
 use mathlib.Core.List.{List, [], _∷_, _++_}
 use Prim.Native.Nat.{ℕ, zero, _+_, _-_, _*_, _≤_, _<_}
 use native.Mathlib.Nat.{add-zero}
 use native.Mathlib.Omega.{arith}
-use borrow.Author.Tests.{lt-ltb, le-ltb, eq-eqb, ne-eqb, ltb-false, eqb-true, eqb-false}
+use borrow.Author.Tests.{lt-ltb, le-ltb, eq-eqb, ne-eqb, ltb-false, eqb-true}
 use lib.Dec.{eqb, ltb}
 use lib.ListN.{length, getD, take, drop, length-drop, List·getD-append}
 use lib.Seq.{getD-drop, getD-take, length-take-le}
 use Rattle.morph.proofs.Lists.{split, length-tabulate, tabulate-ext}
 use Rattle.plan.specs.declared.Plan.{Plan}
 use Rattle.plan.specs.declared.Reading.{Reading}
-use Rattle.plan.specs.Numbers.{given, firstOf}
+use Rattle.plan.specs.Numbers.{given, firstOf, sampleNumber, sizeNumber}
 use Rattle.plan.specs.Plan.{planOf, countNumber, stageFrom, stageNumber, stagesFrom, stagesNumber, planNumber, planRead, answered}
-use Rattle.plan.proofs.Numbers.{first-one, first-skip, first-found, first-zero, given-zero, neither}
+use Rattle.plan.proofs.Numbers.{first-one, first-skip, first-found, first-zero, given-zero, size-accepted}
 use Rattle.plan.proofs.Laws.{refused-answer, count-accepted}
 use Rattle.plan.proofs.Named.{counted}
 use Rattle.job.specs.declared.Job.{Job}
 use Rattle.job.specs.declared.Head.{Head}
 use Rattle.job.specs.declared.JobRead.{JobRead}
 use Rattle.job.specs.Layout.{rowBytes, headAt, widthFrom, rowsFrom, jobFrom}
-use Rattle.job.specs.Job.{missing, planSectionNumber, planSection, sampleNumber, sizeNumber, headNumber, headAnswered, headSectionNumber, rowsNumber, jobNumber, noJob, jobRead}
+use Rattle.job.specs.Job.{missing, planSectionNumber, planSection, headNumber, headAnswered, headSectionNumber, rowsNumber, jobNumber, noJob, jobRead}
 
 -- ---- one rule after another, said of a number that stands for the whole
 
@@ -138,14 +137,14 @@ pub head-accepted : (head : List ℕ) {m s w h : ℕ} → m ≡ 0 → s ≡ getD
 head-accepted head {m} z p q r = let f = eq-eqb m 0 z in cc
 
 module _ (head : List ℕ) where
-  pub head-sample : 1 < getD head 0 0 → 5 ≡ headNumber head
+  pub head-sample : {n : ℕ} → n ≡ sampleNumber (getD head 0 0) → (n ≡ 0 → ⊥) → n ≡ headNumber head
   unfolding headNumber
-  head-sample h = found (sampleNumber (getD head 0 0)) (sizeNumber (widthFrom head) (rowsFrom head) ∷ []) (simp (lt-ltb 1 (getD head 0 0) h)) (λ z. omega arith)
+  head-sample e h = found (sampleNumber (getD head 0 0)) (sizeNumber (widthFrom head) (rowsFrom head) ∷ []) e h
 
-  pub head-size : {n w h : ℕ} → getD head 0 0 ≤ 1 → w ≡ widthFrom head → h ≡ rowsFrom head → n ≡ sizeNumber w h → n ≡ headNumber head
+  pub head-size : {n w h : ℕ} → sampleNumber (getD head 0 0) ≡ 0 → w ≡ widthFrom head → h ≡ rowsFrom head → n ≡ sizeNumber w h → n ≡ headNumber head
   unfolding headNumber
   head-size {n} {w} {h} k p q e =
-      skip (sampleNumber (getD head 0 0)) (sizeNumber (widthFrom head) (rowsFrom head) ∷ []) (simp (le-ltb 1 (getD head 0 0) k))
+      skip (sampleNumber (getD head 0 0)) (sizeNumber (widthFrom head) (rowsFrom head) ∷ []) k
       (e ∙ ap (λ (w : ℕ). sizeNumber w h) p ∙ ap (λ (h : ℕ). sizeNumber (widthFrom head) h) q ∙ sym (first-one (sizeNumber (widthFrom head) (rowsFrom head))))
 
 pub record HeadThere (head : List ℕ) : Type 0 where
@@ -155,18 +154,11 @@ pub record HeadThere (head : List ℕ) : Type 0 where
   pub some-rows : 1 ≤ rowsFrom head
   pub rows : rowsFrom head ≤ 65535
 
-pub sized : (w h : ℕ) → sizeNumber w h ≡ 0 → (1 ≤ w) × (w ≤ 4096) × (1 ≤ h) × (h ≤ 65535)
-sized w h e =
-    let a = neither (eqb w 0 || ltb 4096 w || eqb h 0) (ltb 65535 h) (given-zero 3 (eqb w 0 || ltb 4096 w || eqb h 0 || ltb 65535 h) e) in
-    let b = neither (eqb w 0 || ltb 4096 w) (eqb h 0) (a .0) in
-    let c = neither (eqb w 0) (ltb 4096 w) (b .0) in
-    (omega (arith, eqb-false w 0 (c .0)), ltb-false 4096 w (c .1), omega (arith, eqb-false h 0 (b .1)), ltb-false 65535 h (a .1))
-
 pub head-there : (head : List ℕ) → headNumber head ≡ 0 → HeadThere head
 unfolding headNumber
 head-there head e =
     let a = first-zero (sampleNumber (getD head 0 0)) (sizeNumber (widthFrom head) (rowsFrom head) ∷ []) e in
-    let s = sized (widthFrom head) (rowsFrom head) (sym (first-one (sizeNumber (widthFrom head) (rowsFrom head))) ∙ a .1) in
+    let s = size-accepted (widthFrom head) (rowsFrom head) (sym (first-one (sizeNumber (widthFrom head) (rowsFrom head))) ∙ a .1) in
     record { known = ltb-false 1 (getD head 0 0) (given-zero 4 (ltb 1 (getD head 0 0)) (a .0)); some-width = s .0; width = s .1; some-rows = s .2; rows = s .3 }
 
 module _ (bytes : List ℕ) (at : ℕ) where

@@ -9,8 +9,8 @@ use borrow.Author.Tests.{leb-true, leb-false, le-leb, lt-leb, ltb-false, lt-ltb,
 use lib.Dec.{leb, ltb}
 use lib.ListN.{length, take, drop}
 use lib.Seq.{slice, slice-empty, take-nil}
-use Rattle.morph.proofs.Lists.{split}
-use Rattle.plan.proofs.Numbers.{given-zero, neither}
+use Rattle.morph.proofs.Lists.{split, neither}
+use Rattle.plan.proofs.Numbers.{given-zero}
 use Rattle.job.specs.declared.Job.{Job}
 use Rattle.job.specs.Layout.{sampleBytes, rowBytes}
 use Rattle.job.specs.View.{rowAt, thereTo, viewNumber, viewed}

@@ -10,12 +10,11 @@ use lib.Dec.{ltb}
 use lib.ListN.{length, getD, take, drop, set, replicate, length-append}
 use lib.Seq.{sets, take-suc, length-take-le, set-at, sets-eq}
 use Rattle.plan.specs.declared.Stage.{Stage}
-use Rattle.plan.specs.Numbers.{given, firstOf}
+use Rattle.plan.specs.Numbers.{given, firstOf, sampleNumber, sizeNumber}
 use Rattle.plan.specs.Plan.{used, recordNumber}
 use Rattle.job.specs.declared.Job.{Job}
 use Rattle.job.specs.declared.Written.the-variants.{Bytes, Refused}
 use Rattle.job.specs.Layout.{stageBytes, stagesBytes, planBytes, headBytes, encode, headAt, rowsAt}
-use Rattle.job.specs.Job.{sampleNumber, sizeNumber}
 use Rattle.job.specs.Write.{writeNumber, answerOf, Wrote}
 use Rattle.job.proofs.Sections.{skip, found}
 
@@ -105,14 +104,14 @@ module _ (job : Job) (out : List ℕ) where
   write-plan e h = found (recordNumber (job .plan)) (sample ∷ size ∷ room ∷ []) e h
 
   module _ (plan : recordNumber (job .plan) ≡ 0) where
-    pub write-sample : 1 < job .sample → 5 ≡ writeNumber job out
+    pub write-sample : {n : ℕ} → n ≡ sample → (n ≡ 0 → ⊥) → n ≡ writeNumber job out
     unfolding writeNumber
-    write-sample h = skip (recordNumber (job .plan)) (sample ∷ size ∷ room ∷ []) plan (found sample (size ∷ room ∷ []) (simp (lt-ltb 1 (job .sample) h)) (λ z. omega arith))
+    write-sample e h = skip (recordNumber (job .plan)) (sample ∷ size ∷ room ∷ []) plan (found sample (size ∷ room ∷ []) e h)
 
-    module _ (known : job .sample ≤ 1) where
+    module _ (known : sample ≡ 0) where
       after-sample : {n : ℕ} → n ≡ firstOf (size ∷ room ∷ []) → n ≡ writeNumber job out
       unfolding writeNumber
-      after-sample e = skip (recordNumber (job .plan)) (sample ∷ size ∷ room ∷ []) plan (skip sample (size ∷ room ∷ []) (simp (le-ltb 1 (job .sample) known)) e)
+      after-sample e = skip (recordNumber (job .plan)) (sample ∷ size ∷ room ∷ []) plan (skip sample (size ∷ room ∷ []) known e)
 
       pub write-size : {n : ℕ} → n ≡ size → (n ≡ 0 → ⊥) → n ≡ writeNumber job out
       write-size e h = after-sample (found size (room ∷ []) e h)

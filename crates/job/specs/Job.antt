@@ -1,12 +1,12 @@
 -- What the readers of a job answer: the number of each group, and the record where it is 0.
 -- "Missing bytes give 13 at their group (count, all stages, head, one row), before its other checks."
-use mathlib.Core.Bool.{cond, _||_}
+use mathlib.Core.Bool.{cond}
 use mathlib.Core.List.{List, [], _∷_}
 use Prim.Native.Nat.{ℕ, _+_, _*_}
 use lib.Dec.{eqb, ltb}
 use lib.ListN.{length, getD, drop}
 use Rattle.plan.specs.declared.Reading.{Reading}
-use Rattle.plan.specs.Numbers.{given, firstOf}
+use Rattle.plan.specs.Numbers.{given, firstOf, sampleNumber, sizeNumber}
 use Rattle.plan.specs.Plan.{planOf, countNumber, stagesFrom, stagesNumber, answered}
 use Rattle.job.specs.declared.Job.{Job}
 use Rattle.job.specs.declared.Head.{Head}
@@ -28,14 +28,6 @@ unfoldable pub planSection : List ℕ → Reading
 planSection bytes = answered (planSectionNumber bytes) (planOf (stagesFrom (getD bytes 0 0) (drop 1 bytes)))
 
 -- ---- the image head
-
--- "5 | sample kind is not 0 (grey) or 1 (float)"
-abbrev pub sampleNumber : ℕ → ℕ
-sampleNumber sample = given 5 (ltb 1 sample)
-
--- "4 | width is 0 or over 4,096, or a row count .. is 0 or over 65,535"
-abbrev pub sizeNumber : ℕ → ℕ → ℕ
-sizeNumber width rows = given 4 (eqb width 0 || ltb 4096 width || eqb rows 0 || ltb 65535 rows)
 
 -- of its five bytes: 5, 4
 unfoldable pub headNumber : List ℕ → ℕ

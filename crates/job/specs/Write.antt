@@ -5,13 +5,12 @@ use mathlib.Core.List.{List, [], _∷_, _++_}
 use Prim.Native.Nat.{ℕ, zero, suc}
 use lib.Dec.{eqb, ltb}
 use lib.ListN.{length, drop}
-use Rattle.plan.specs.Numbers.{given, firstOf}
+use Rattle.plan.specs.Numbers.{given, firstOf, sampleNumber, sizeNumber}
 use Rattle.plan.specs.Plan.{recordNumber}
 use Rattle.job.specs.declared.Job.{Job}
 use Rattle.job.specs.declared.Written.{Written}
 use Rattle.job.specs.declared.Written.the-variants.{Bytes, Refused}
 use Rattle.job.specs.Layout.{encode, rowsAt}
-use Rattle.job.specs.Job.{sampleNumber, sizeNumber}
 
 -- in the order of a start: 1, stage by stage 3, 5, 4, then 6 for too short an output
 unfoldable pub writeNumber : Job → List ℕ → ℕ

@@ -1,19 +1,19 @@
 // The job layout: its readers, group by group and whole; the view of a job's rows; and the writer of what stands before the rows.
 ghost use mathlib.Core.Path.{_≡_};
 ghost use mathlib.Core.List.{[], _∷_, _++_};
-ghost use Prim.Native.Nat.{_+_, _-_, _*_, _/_, _%_, _≤_, _<_};
+ghost use Prim.Native.Nat.{_+_, _-_, _*_, _≤_};
 ghost use lib.Dec.{leb};
 ghost use lib.ListN.{length, getD, drop, replicate};
-ghost use lib.Seq.{sets};
-ghost use Rattle.plan.specs.Plan.{used};
-ghost use Rattle.job.specs.Layout.{kindByte, stageBytes, stagesBytes, headBytes, sampleBytes, lowHigh, headAt};
-ghost use Rattle.job.specs.Job.{planSection, sizeNumber, headNumber, headAnswered, headSectionNumber, rowsNumber, noJob, jobRead};
+ghost use Rattle.job.specs.Layout.{sampleBytes, lowHigh};
+ghost use Rattle.job.specs.Job.{planSection, headNumber, headAnswered, headSectionNumber, rowsNumber, noJob, jobRead};
 ghost use Rattle.job.specs.View.{thereTo, viewNumber, viewed};
-ghost use Rattle.job.specs.Write.{Wrote};
-use morph::Kind;
+use morph::wide;
 use plan::Plan;
 use plan::Reading;
-use plan::Stage;
+
+mod writer; // writer.rt: what stands before a job's rows
+
+pub use writer::write_head;
 
 // A job that was read: its plan, its image head, and where its rows begin.
 pub struct Job {
@@ -42,12 +42,6 @@ pub struct JobRead {
 pub enum Written {
     Bytes(usize),
     Refused(u8),
-}
-
-fn wide(x: u8) -> usize
-    ensures { λ r. ⌜ (r ≡ x) × (r < 256) ⌝ }
-{
-    x as usize
 }
 
 // The number of two bytes, the low one first.
@@ -113,25 +107,6 @@ pub fn plan_section(bytes: &[u8]) -> Reading
 
 // ---- the image head
 
-// 0, or 4.
-pub fn judge_size(width: usize, rows: usize) -> u8
-    ensures { λ r. ⌜ r ≡ sizeNumber width rows ⌝ }
-{
-    if width == 0 {
-        return 4;
-    }
-    if 4096 < width {
-        return 4;
-    }
-    if rows == 0 {
-        return 4;
-    }
-    if 65535 < rows {
-        return 4;
-    }
-    0
-}
-
 fn refused_head(number: u8) -> Head
     ensures { λ r. ⌜ r ≡ record { number = number; sample = 0; width = 0; rows = 0 } ⌝ }
 {
@@ -148,12 +123,13 @@ pub fn read_head(bytes: &[u8; 5]) -> Head
     ensures { λ r. ⌜ r ≡ headAnswered (headNumber (now (bytes .entry))) (now (bytes .entry)) ⌝ }
 {
     let sample = bytes[0];
-    if 1 < sample {
-        return refused_head(5);
+    let number = plan::judge_sample(sample);
+    if number != 0 {
+        return refused_head(number);
     }
     let width = low_high(bytes[1], bytes[2]);
     let rows = low_high(bytes[3], bytes[4]);
-    let number = judge_size(width, rows);
+    let number = plan::judge_size(width, rows);
     if number != 0 {
         return refused_head(number);
     }
@@ -320,106 +296,4 @@ pub fn rows(bytes: &[u8], job: Job, i: usize, j: usize) -> &[u8]
     let start = at + i * size;
     let end = at + j * size;
     &bytes[start..end]
-}
-
-// ---- writing
-
-fn kind_byte(kind: Kind) -> u8
-    ensures { λ r. ⌜ r ≡ kindByte kind ⌝ }
-{
-    match kind {
-        Kind::Erosion => 0,
-        Kind::Dilation => 1,
-    }
-}
-
-fn byte(x: usize) -> u8
-    requires { ⌜ x < 256 ⌝ }
-    ensures { λ r. ⌜ r ≡ x ⌝ }
-{
-    x as u8
-}
-
-// Five bytes from `at` on.
-fn write_five(out: &mut [u8], at: usize, a: u8, b: u8, c: u8, d: u8, e: u8)
-    requires { ⌜ at + 5 ≤ length (now out) ⌝ }
-    ensures { λ _. ⌜ now (out .exit) ≡ sets (now (out .entry)) at (a ∷ b ∷ c ∷ d ∷ e ∷ []) ⌝ }
-{
-    out[at] = a;
-    out[at + 1] = b;
-    out[at + 2] = c;
-    out[at + 3] = d;
-    out[at + 4] = e;
-}
-
-fn write_stage(stage: Stage, out: &mut [u8], at: usize)
-    requires { ⌜ at + 5 ≤ length (now out) ⌝ }
-    ensures { λ _. ⌜ now (out .exit) ≡ sets (now (out .entry)) at (stageBytes stage) ⌝ }
-{
-    let kind = stage.kind;
-    write_five(
-        out,
-        at,
-        kind_byte(kind),
-        stage.left,
-        stage.right,
-        stage.up,
-        stage.down,
-    );
-}
-
-// The plan's stages, after the count's byte.
-fn write_stages(plan: Plan, out: &mut [u8])
-    requires { ⌜ (plan .count ≤ 16) × (headAt (plan .count) ≤ length (now out)) ⌝ }
-    ensures { λ _. ⌜ now (out .exit) ≡ sets (now (out .entry)) 1 (stagesBytes (used plan)) ⌝ }
-{
-    let count = plan.count;
-    let mut i = 0;
-    while i < count {
-        let stage = plan.stages[i];
-        write_stage(stage, out, 1 + i * 5);
-        i += 1;
-    }
-}
-
-fn write_image(sample: u8, width: usize, rows: usize, out: &mut [u8], at: usize)
-    requires { ⌜ (width ≤ 65535) × (rows ≤ 65535) × (at + 5 ≤ length (now out)) ⌝ }
-    ensures { λ _. ⌜ now (out .exit) ≡ sets (now (out .entry)) at (headBytes sample width rows) ⌝ }
-{
-    write_five(
-        out,
-        at,
-        sample,
-        byte(width % 256),
-        byte(width / 256),
-        byte(rows % 256),
-        byte(rows / 256),
-    );
-}
-
-// What stands before the job's rows, at the front of the output. Refused 1; stage by stage 3; 5; 4; 6 for too short an output.
-pub fn write_head(job: Job, out: &mut [u8]) -> Written
-    ensures { λ r. ⌜ Wrote job (now (out .entry)) (now (out .exit)) r ⌝ }
-{
-    let plan = job.plan;
-    let number = plan::judge(plan);
-    if number != 0 {
-        return Written::Refused(number);
-    }
-    if 1 < job.sample {
-        return Written::Refused(5);
-    }
-    let number = judge_size(job.width, job.rows);
-    if number != 0 {
-        return Written::Refused(number);
-    }
-    let count = plan.count;
-    let at = 1 + count * 5;
-    if out.len() < at + 5 {
-        return Written::Refused(6);
-    }
-    out[0] = byte(count);
-    write_stages(plan, out);
-    write_image(job.sample, job.width, job.rows, out, at);
-    Written::Bytes(at + 5)
 }

@@ -1,21 +1,21 @@
 -- The laws of a line's queue, over any order.
 use mathlib.Core.Path.{_≡_, refl, sym, ap, _∙_, subst}
-use mathlib.Core.Bool.{Bool, true, false, cond, not, _&&_, _||_, and-true, or-true}
+use mathlib.Core.Bool.{Bool, true, false, not, _||_, and-true, or-true}
 use mathlib.Core.Logic.{inl, inr, ⊎-elim}
-use mathlib.Core.Option.{Option, none, some}
-use mathlib.Core.List.{List, [], _∷_, _++_, append-nil, nil≢cons}
+use mathlib.Core.Option.{none, some}
+use mathlib.Core.List.{List, [], _∷_, _++_, nil≢cons}
 use Prim.Native.Nat.{ℕ, zero, suc, _+_, _-_, _*_, _≤_, _<_, min}
-use native.Mathlib.Nat.{not-suc-le-zero, le-of-lt, zero-sub, zero-add, add-zero, add-suc, suc-add}
+use native.Mathlib.Nat.{not-suc-le-zero, le-of-lt, zero-sub, add-zero, add-suc, suc-add}
 use native.Mathlib.Numerals.{add-one}
 use native.Mathlib.Omega.{arith}
 use borrow.Author.Tests.{ltb-true, ltb-false, lt-ltb, le-ltb, leb-true, le-leb, not-true}
 use lib.Dec.{leb, ltb}
 use lib.ListN.{length, take, drop, getD, length-append, length-take, length-drop}
-use lib.Seq.{slice, drop-nil, drop-drop, take-suc, drop-append-le, take-all, take-length, getD-drop, getD-take}
+use lib.Seq.{slice, drop-nil, drop-drop, take-suc, drop-append-le, take-all, getD-drop, getD-take}
 use Rattle.morph.specs.Lists.{all, Each, In}
 use Rattle.morph.specs.Order.{Order}
 use Rattle.morph.specs.Line.{Entry, positioned, windowed, aged, outputAt, Queued, Rising, greater, best, bestAt, filterLine, over, standing, queue, front, falling, passed, unpassed, comparisons, lineCost, lineCosts}
-use Rattle.morph.proofs.Lists.{split, both, length-tabulate, getD-tabulate, all-append, all-take, keep-append, positioned-append, length-positioned, each-positioned, values, values-positioned, each-slice, each-tabulate}
+use Rattle.morph.proofs.Lists.{split, both, length-tabulate, getD-tabulate, all-append, positioned-append, length-positioned, each-positioned, values, values-positioned, each-slice, each-tabulate}
 
 -- ---- at which step an output comes
 

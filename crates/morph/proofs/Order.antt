@@ -3,7 +3,6 @@ use mathlib.Core.Path.{_≡_}
 use mathlib.Core.Bool.{true}
 use lib.Ieee.{Float, le}
 use lib.Ieee.Scale.{finite}
-use Rattle.morph.specs.Order.{Order}
 use Rattle.morph.specs.Rate.{rate}
 
 pub rate-le : (x y : Float) → finite x ≡ true → finite y ≡ true → rate .le x y ≡ le x y

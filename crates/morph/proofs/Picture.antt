@@ -4,9 +4,9 @@ use mathlib.Core.List.{List, [], _∷_, _++_, map, flatten, append-nil}
 use Prim.Native.Nat.{ℕ, zero, suc, _+_, _-_, _*_, _≤_, _<_, min}
 use native.Mathlib.Nat.{not-suc-le-zero, add-zero}
 use native.Mathlib.Omega.{arith}
-use lib.ListN.{length, take, drop, getD, length-append, length-take, length-drop, length-map, List·getD-map}
+use lib.ListN.{length, take, getD, length-append, length-take, length-drop, length-map, List·getD-map}
 use lib.Seq.{slice, getD-take, take-take}
-use Rattle.morph.specs.Lists.{tabulate, Each, In}
+use Rattle.morph.specs.Lists.{Each, In}
 use Rattle.morph.specs.Order.{Order}
 use Rattle.morph.specs.Line.{greater, best, bestAt, filterLine}
 use Rattle.morph.specs.Picture.{Picture, Wide, Stage, erosion, dilation, Covers, rowsAt, under, applyStage, across, column, down, applyPlan, lookAhead, alternating}

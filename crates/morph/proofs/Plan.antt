@@ -1,7 +1,7 @@
 -- The laws of a plan's queues, step by step, and of what its steps cost.
-use mathlib.Core.Path.{_≡_, refl, sym, ap, _∙_}
+use mathlib.Core.Path.{_≡_, ap, _∙_}
 use mathlib.Core.Bool.{cond}
-use mathlib.Core.List.{List, [], _∷_, _++_, map}
+use mathlib.Core.List.{List, [], _∷_, _++_}
 use Prim.Native.Nat.{ℕ, zero, suc, _+_, _-_, _*_, _≤_, _<_, min}
 use native.Mathlib.Nat.{le-of-lt, mul-zero, mul-le-mul-right}
 use native.Mathlib.Omega.{arith}
@@ -10,7 +10,7 @@ use lib.Dec.{leb, ltb}
 use lib.ListN.{length, take, getD, length-take, length-map, List·getD-map}
 use lib.Seq.{take-take}
 use Rattle.morph.specs.Lists.{sumTo}
-use Rattle.morph.specs.Line.{Entry, filterLine, front, queue, aged, unpassed, lineCost, lineCosts}
+use Rattle.morph.specs.Line.{filterLine, front, queue, aged, unpassed, lineCost, lineCosts}
 use Rattle.morph.specs.Picture.{Picture, Wide, Stage, applyStage, applyPlan, lookAhead, across, column}
 use Rattle.morph.specs.Plan.{window, columnQueue, planQueue, stageCost, planCost, stageBound}
 use Rattle.morph.proofs.Lists.{split, getD-tabulate, each-getD, take-map, sumTo-add, sumTo-le, sumTo-later}

@@ -1,14 +1,12 @@
 -- What a pop, an ageing and a push do to a queue in a ring.
-use mathlib.Core.Path.{_≡_, refl, sym, ap, _∙_}
+use mathlib.Core.Path.{_≡_, sym, ap, _∙_}
 use mathlib.Core.List.{List, [], _∷_, _++_}
 use mathlib.Core.Logic.{_≢_}
-use Prim.Native.Nat.{ℕ, zero, suc, _+_, _-_, _≤_, _<_, min}
-use native.Mathlib.Nat.{add-zero, add-suc, suc-add}
+use Prim.Native.Nat.{ℕ, suc, _+_, _-_, _≤_, _<_, min}
 use native.Mathlib.Omega.{arith}
 use borrow.Author.Tests.{ltb-true, ltb-false, lt-ltb, le-ltb}
 use lib.Dec.{ltb}
 use lib.ListN.{length, take, drop, getD}
-use Rattle.morph.specs.Lists.{tabulate}
 use Rattle.morph.specs.Line.{Entry}
 use Rattle.morph.specs.Ring.{wrap, ring, entries}
 use Rattle.morph.proofs.Lists.{split, length-tabulate, getD-tabulate, tabulate-ext, take-tabulate, tabulate-snoc}

@@ -2,16 +2,16 @@
 use mathlib.Core.Path.{_≡_, refl, sym, ap, _∙_}
 use mathlib.Core.Bool.{Bool, true, false, cond}
 use mathlib.Core.List.{List, [], _∷_, _++_}
-use Prim.Native.Nat.{ℕ, zero, suc, _+_, _-_, _≤_, _<_, min}
-use native.Mathlib.Nat.{not-suc-le-zero, zero-add}
+use Prim.Native.Nat.{ℕ, zero, suc, _+_, _-_, _≤_, _<_}
+use native.Mathlib.Nat.{zero-add}
 use native.Mathlib.Omega.{arith}
 use borrow.Author.Tests.{leb-true, lt-ltb, eq-eqb, ne-eqb, eqb-true, eqb-false}
 use lib.Dec.{leb, eqb}
-use lib.ListN.{length, take, drop, getD, length-append}
+use lib.ListN.{length, take, getD, length-append}
 use lib.Seq.{take-suc, take-length, take-at}
 use Rattle.morph.specs.Order.{Order}
-use Rattle.morph.specs.Lists.{Each, In}
-use Rattle.morph.specs.Line.{Entry, aged, queue, falling, Rising, passed, unpassed, comparisons, Queued}
+use Rattle.morph.specs.Lists.{Each}
+use Rattle.morph.specs.Line.{Entry, aged, queue, falling, Rising, passed, unpassed, comparisons}
 use Rattle.morph.specs.Step.{popped, roomed, stepped, stepCost}
 use Rattle.morph.proofs.Lists.{split, both, each-take, each-in}
 use Rattle.morph.proofs.Line.{passed-tail, passed-count, none-unpassed, queue-falls, queue-read, queue-drain, queue-rising, queue-sound}

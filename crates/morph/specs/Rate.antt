@@ -1,11 +1,9 @@
 -- Rates: 32-bit floats, in the order of the floats' own comparison.
 -- "Floats: accepted pixels are finite. A negative zero is read as positive zero, so output never holds a negative zero. Order is the floats' own comparison."
-use mathlib.Core.Path.{_≡_, refl}
-use mathlib.Core.Bool.{Bool, true, false, cond, not, _&&_, _||_}
+use mathlib.Core.Bool.{false, cond}
 use lib.Dec.{eqb}
 use lib.IntN.{pos}
 use lib.Ieee.{Float, nan, inf, fin, le}
-use lib.Ieee.Scale.{finite}
 use Rattle.morph.specs.Order.{Order}
 use Rattle.morph.specs.FloatLaws.{floatLe, float-total, float-trans}
 

@@ -1,41 +1,32 @@
 -- What an accepted plan, size, state and memory have: the numbers read back as facts.
 use mathlib.Core.Path.{_≡_, refl, sym, ap, _∙_}
-use mathlib.Core.Bool.{Bool, true, false, not, _&&_, _||_, and-true, and-assoc}
+use mathlib.Core.Bool.{Bool, true, not, _&&_, _||_, and-true, and-assoc}
 use mathlib.Core.List.{List, [], _∷_, _++_}
-use Prim.Native.Nat.{ℕ, zero, suc, _+_, _-_, _*_, _≤_, _<_, min}
+use Prim.Native.Nat.{ℕ, suc, _+_, _-_, _*_, _≤_, _<_}
 use native.Mathlib.Nat.{zero-mul, mul-le-mul-right}
 use native.Mathlib.Numerals.{add-one}
 use native.Mathlib.Omega.{arith}
-use borrow.Author.Tests.{eqb-true, eqb-false, ltb-false, leb-false, not-false, eq-eqb, ne-eqb, le-leb, lt-leb, le-ltb, lt-ltb}
+use borrow.Author.Tests.{eqb-true, ltb-false, leb-false, not-false, eq-eqb, ne-eqb, le-leb, lt-leb, le-ltb, lt-ltb}
 use lib.Dec.{eqb, ltb, leb}
 use lib.ListN.{length, getD, take, drop, length-take, length-drop}
 use lib.Seq.{getD-take, take-suc, drop-drop, length-take-le}
-use Rattle.morph.specs.Lists.{Each, all}
-use Rattle.morph.proofs.Lists.{each-in, in-place}
+use Rattle.morph.specs.Lists.{Each}
+use Rattle.morph.proofs.Lists.{neither, each-in, in-place}
 use Rattle.plan.specs.declared.Stage.{Stage}
 use Rattle.plan.specs.declared.Plan.{Plan}
-use Rattle.plan.specs.Numbers.{given, firstOf}
+use Rattle.plan.specs.Numbers.{given, firstOf, sampleNumber, sizeNumber}
 use Rattle.plan.specs.Plan.{Small, unused, used, total, belowOf, sizeOf, recordNumber, cellsNeeded, recordsNeeded, planAhead}
-use Rattle.plan.proofs.Numbers.{first-one, first-skip, first-found, first-zero, given-zero, neither}
+use Rattle.plan.proofs.Numbers.{first-one, first-skip, first-found, first-zero, given-zero, size-accepted}
 use Rattle.plan.proofs.Named.{judged-count, judged-stage}
 use Rattle.stage.proofs.Stage.{ahead-small}
 use Rattle.columns.specs.Columns.{soundRecords}
 use Rattle.chain.specs.Run.{allSound}
 use Rattle.picture.specs.declared.State.{State}
 use Rattle.picture.specs.Fit.{Accepted, Run}
-use Rattle.picture.specs.Numbers.{sampleNumber, sizeNumber, memoryNumber, stateNumber, kindNumber, recordsNumber, sharedNumber, lentNumber, offerNumber, drainNumber}
+use Rattle.picture.specs.Numbers.{memoryNumber, stateNumber, kindNumber, recordsNumber, sharedNumber, lentNumber, offerNumber, drainNumber}
 
 pub plan-accepted : (plan : Plan) → recordNumber plan ≡ 0 → Accepted plan
 plan-accepted plan e = let (a, b) = judged-count plan e in record { some = a; few = b; small = judged-stage plan e }
-
-pub size-accepted : (width rows : ℕ) → sizeNumber width rows ≡ 0 → (0 < width) × (width ≤ 4096) × (0 < rows) × (rows ≤ 65535)
-size-accepted width rows e =
-    let (a, b) = neither (eqb width 0 || ltb 4096 width || eqb rows 0) _ (given-zero 3 _ e) in
-    let (c, d) = neither (eqb width 0 || ltb 4096 width) _ a in
-    let (f, g) = neither (eqb width 0) _ c in
-    let w = eqb-false width 0 f in
-    let r = eqb-false rows 0 d in
-    (omega (arith, w), ltb-false 4096 width g, omega (arith, r), ltb-false 65535 rows b)
 
 -- each stage of an accepted plan is small, and its look-ahead is
 pub used-small : (plan : Plan) → Accepted plan → Each Small (used plan)

@@ -1,16 +1,15 @@
 -- A row of rates that was looked through: the first column that is not finite is the first bad one.
 use mathlib.Core.Path.{_≡_, refl, sym, ap, _∙_}
-use mathlib.Core.Bool.{Bool, true, false, not}
+use mathlib.Core.Bool.{true, false}
 use mathlib.Core.List.{List, [], _∷_}
-use Prim.Native.Nat.{ℕ, suc, _≤_, _<_}
+use Prim.Native.Nat.{ℕ, _≤_, _<_}
 use borrow.Author.Tests.{lt-ltb, le-ltb, not-true, not-false}
 use lib.Dec.{ltb}
 use lib.ListN.{length}
 use lib.Ieee.{Float}
-use lib.Ieee.Scale.{finite}
 use Rattle.morph.specs.Lists.{all}
 use Rattle.sample.specs.Rate.{firstNotFinite}
-use Rattle.sample.specs.Samples.{Samples, rates}
+use Rattle.sample.specs.Samples.{rates}
 use Rattle.sample.proofs.Rows.{all-first}
 use Rattle.picture.specs.Step.{firstBad}
 

@@ -1,6 +1,6 @@
 -- The laws of a read-out: its number, the part of the memory that is a stage's own, and what stands at a place of a queue of it.
-use mathlib.Core.Path.{_≡_, refl, sym, ap, _∙_, subst}
-use mathlib.Core.Bool.{Bool, true, false, cond, _&&_, _||_}
+use mathlib.Core.Path.{_≡_, refl, sym, ap, _∙_}
+use mathlib.Core.Bool.{Bool, true, false, cond, _||_}
 use mathlib.Core.List.{List, [], _∷_, map}
 use Prim.Native.Nat.{ℕ, zero, suc, _+_, _-_, _*_, _≤_, _<_, min}
 use native.Mathlib.Nat.{sub-zero, zero-mul, not-suc-le-zero, mul-le-mul-right}
@@ -9,11 +9,10 @@ use borrow.Author.Tests.{le-leb, lt-leb, leb-false}
 use lib.Dec.{leb}
 use lib.ListN.{length, getD, take, drop, length-take, length-drop}
 use lib.Seq.{length-take-le, drop-drop, take-take, getD-take}
-use Rattle.morph.specs.Order.{Order}
 use Rattle.morph.specs.Line.{Entry}
 use Rattle.morph.specs.Picture.{Picture, applyStage, applyPlan, lookAhead}
 use Rattle.morph.specs.Plan.{columnQueue, planQueue}
-use Rattle.morph.proofs.Lists.{both}
+use Rattle.morph.proofs.Lists.{both, neither}
 use Rattle.morph.proofs.Picture.{stage-length}
 use Rattle.sample.specs.Samples.{Samples}
 use Rattle.columns.specs.Columns.{Lent, soundRecords, columnAt, EntryAt}
@@ -23,9 +22,9 @@ use Rattle.plan.specs.declared.Stage.{Stage}
 use Rattle.plan.specs.declared.Plan.{Plan}
 use Rattle.plan.specs.Numbers.{given, firstOf}
 use Rattle.plan.specs.Plan.{unused, used, filterOf, sizeOf, belowOf, cellsOf, total, cellsNeeded, recordsNeeded}
-use Rattle.plan.proofs.Numbers.{first-one, first-skip, first-found, first-zero, given-zero, neither}
+use Rattle.plan.proofs.Numbers.{first-one, first-skip, first-found, first-zero, given-zero}
 use Rattle.stage.specs.Stage.{Memory}
-use Rattle.chain.specs.Run.{frontOf, behind, allSound, Holds}
+use Rattle.chain.specs.Run.{behind, allSound, Holds}
 use Rattle.picture.specs.declared.State.{State}
 use lib.Ieee.{Float, nan}
 use Rattle.queue.specs.declared.grey.Entry.{Entry as GreyEntry}
@@ -172,11 +171,12 @@ pub record Place {A : Type 0} (S : State) (M : Memory A) (stage column cells pla
   pub size : places ≡ sizeOf (getD (S .plan .stages) stage unused)
 
 -- the part ends within the memory lent, which the stages' cells and records are cut from
-pub record Within (width stage cells places values positions starts lengths : ℕ) : Type 0 where
-  pub values-end : cells + width * places ≤ values
-  pub positions-end : cells + width * places ≤ positions
-  pub starts-end : stage * width + width ≤ starts
-  pub lengths-end : stage * width + width ≤ lengths
+abbrev pub Within : {A : Type 0} → ℕ → ℕ → ℕ → ℕ → Memory A → Type 0
+Within width stage cells places M =
+    (cells + width * places ≤ length (M .values))
+    × (cells + width * places ≤ length (M .positions))
+    × (stage * width + width ≤ length (M .starts))
+    × (stage * width + width ≤ length (M .lengths))
 
 pub placed-part : {A : Type 0} (kind : ℕ) (S : State) (M : Memory A) (stage column : ℕ) (plan : Plan) → plan ≡ S .plan
     → placedNumber kind S stage column (length (M .values)) (length (M .positions)) (M .starts) (M .lengths) ≡ 0 → Accepted plan × (stage < plan .count) × (S .width ≤ 4096)
@@ -185,10 +185,10 @@ placed-part kind S M stage column plan e z =
     let f = judged-fit kind S M a in
     rw e (f .run .plan, b, f .run .narrow)
 
-pub placed-place : {A : Type 0} (kind : ℕ) (S : State) (M : Memory A) (stage column cells places : ℕ) (plan : Plan) → plan ≡ S .plan → length (S .plan .stages) ≡ 16
+pub placed-place : {A : Type 0} (kind : ℕ) (S : State) (M : Memory A) (stage column cells places : ℕ) (plan : Plan) → (plan ≡ S .plan) × (length (S .plan .stages) ≡ 16)
     → placedNumber kind S stage column (length (M .values)) (length (M .positions)) (M .starts) (M .lengths) ≡ 0
-    → cells ≡ total (cellsOf (S .width)) (take stage (plan .stages)) → places ≡ sizeOf (getD (plan .stages) stage unused) → Place S M stage column cells places
-placed-place kind S M stage column cells places plan e l z n p =
+    → (cells ≡ total (cellsOf (S .width)) (take stage (plan .stages))) × (places ≡ sizeOf (getD (plan .stages) stage unused)) → Place S M stage column cells places
+placed-place kind S M stage column cells places plan (e, l) z (n, p) =
     let (a, b, c) = place-accepted kind S stage column (length (M .values)) (length (M .positions)) (M .starts) (M .lengths) z in
     record {
       fit = judged-fit kind S M a;
@@ -218,17 +218,12 @@ module _ {A : Type 0} (S : State) (M : Memory A) (stage column cells places : �
   own-begins : cells ≡ total (cellsOf W) (take stage (used (S .plan)))
   own-begins = h .begins ∙ ap (total (cellsOf W)) (sym (take-take stage (S .plan .count) (S .plan .stages) (omega (arith, h .there))))
 
-  pub place-within : Within W stage cells places (length (M .values)) (length (M .positions)) (length (M .starts)) (length (M .lengths))
+  pub place-within : Within W stage cells places M
   place-within =
       let c = cells-there W (used (S .plan)) stage used-there in
       let d : cells + W * places ≤ cellsNeeded (S .plan) W = rw (own-begins, own-size) c in
       let r : suc stage * W ≤ recordsNeeded (S .plan) W = mul-le-mul-right W (h .there) in
-      record {
-        values-end = omega (arith, h .fit .values-lent);
-        positions-end = omega (arith, h .fit .positions-lent);
-        starts-end = omega (arith, h .fit .starts-lent);
-        lengths-end = omega (arith, h .fit .lengths-lent);
-      }
+      (omega (arith, h .fit .values-lent), omega (arith, h .fit .positions-lent), omega (arith, h .fit .starts-lent), omega (arith, h .fit .lengths-lent))
 
   -- the parts as the code cuts them
   abbrev cells-of : {B : Type 0} → List B → List B
@@ -247,9 +242,9 @@ module _ {A : Type 0} (S : State) (M : Memory A) (stage column cells places : �
       × (length (cells-of (M .values)) ≡ length (cells-of (M .positions))) × (column < length (records-of (M .starts)))
   place-asks =
       let w = place-within in
-      let a = records-cut (M .starts) (w .starts-end) in
-      let b = records-cut (M .lengths) (w .lengths-end) in
-      let c = cells-cut (M .positions) (w .positions-end) in
+      let a = records-cut (M .starts) (w .2) in
+      let b = records-cut (M .lengths) (w .3) in
+      let c = cells-cut (M .positions) (w .1) in
       let s = h .fit .run .plan .small stage (h .there) in
       let e : stage * W + W - stage * W ≡ W = omega arith in
       let t = sound-there W (used (S .plan)) stage (M .starts) (M .lengths) used-there (h .fit .sound) in
@@ -262,7 +257,7 @@ module _ {A : Type 0} (S : State) (M : Memory A) (stage column cells places : �
           lengths-long = b ∙ sym a;
           sound = rw a (test-sound places W (records-of (M .starts)) (records-of (M .lengths)) a b g);
         },
-        cells-cut (M .values) (w .values-end) ∙ sym c,
+        cells-cut (M .values) (w .0) ∙ sym c,
         rw a (h .across),
       )
 

@@ -1,24 +1,22 @@
 -- Whole runs, from the promises alone. By which idea: a step keeps `Holds`, and what it says is told by it.
 use mathlib.Core.Path.{_≡_, refl, sym, ap, _∙_, subst}
-use mathlib.Core.Bool.{Bool, true, false, not, cond, _&&_}
+use mathlib.Core.Bool.{true, false, not}
 use mathlib.Core.List.{List, [], _∷_, _++_, map}
 use mathlib.Core.Option.{Option, none, some}
-use Prim.Native.Nat.{ℕ, zero, suc, _+_, _-_, _*_, _≤_, _<_}
+use Prim.Native.Nat.{ℕ, zero, suc, _+_, _-_, _≤_, _<_}
 use native.Mathlib.Numerals.{add-one}
 use native.Mathlib.Omega.{arith}
 use borrow.Author.Tests.{leb-true, leb-false, lt-ltb, le-leb, lt-leb}
-use lib.Dec.{leb, ltb}
+use lib.Dec.{leb}
 use lib.ListN.{length, getD, length-map, List·getD-map}
-use Rattle.morph.specs.Order.{Order}
 use Rattle.morph.specs.Lists.{all, tabulate, sumTo}
 use Rattle.morph.specs.Line.{outputAt}
-use Rattle.morph.specs.Picture.{Picture, Stage as Filter, lookAhead, applyPlan, rowAt}
-use Rattle.morph.specs.Plan.{planCost, stageBound}
+use Rattle.morph.specs.Picture.{Picture, Stage as Filter, applyPlan, rowAt}
+use Rattle.morph.specs.Plan.{planCost}
 use Rattle.morph.proofs.Lists.{split, tabulate-snoc}
 use Rattle.morph.proofs.Plan.{plan-costs-bound}
 use Rattle.sample.specs.Samples.{Samples}
-use Rattle.plan.specs.declared.Plan.{Plan}
-use Rattle.plan.specs.Plan.{used, filterOf, stagesOf, planAhead}
+use Rattle.plan.specs.Plan.{used, stagesOf, planAhead}
 use Rattle.plan.proofs.Named.{look-ahead-plan}
 use Rattle.stage.specs.Stage.{Memory, Whole}
 use Rattle.chain.specs.Run.{Holds}
@@ -26,9 +24,9 @@ use Rattle.picture.specs.declared.State.{State}
 use Rattle.picture.specs.declared.Answer.{Answer}
 use Rattle.plan.specs.Numbers.{given}
 use Rattle.plan.proofs.Numbers.{first-zero}
-use Rattle.picture.specs.Numbers.{offerNumber, rowNumber, drainJudged}
+use Rattle.picture.specs.Numbers.{offerNumber, rowNumber}
 use Rattle.picture.proofs.Numbers.{offer-accepted, drain-accepted}
-use Rattle.picture.specs.Step.{Said, row, notYet, refused, saidOf, saidAt, nextState, Advanced, RowStep, DrainStep, Unchanged}
+use Rattle.picture.specs.Step.{Said, row, notYet, saidOf, nextState, Advanced}
 use Rattle.picture.specs.Runs.{comparisonsOf, cameWith, sumOf, taken, Run, begun, offered, drained, row-refused, drain-refused, Ran}
 
 map-snoc : {A B : Type 0} (f : A → B) (l : List A) (a : A) → map f (l ++ (a ∷ [])) ≡ map f l ++ (f a ∷ [])

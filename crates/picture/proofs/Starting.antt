@@ -1,6 +1,6 @@
 -- The laws of a start: its number, the records that it clears, and that the state and the memory afterwards are those before the first step of any picture.
 use mathlib.Core.Path.{_≡_, refl, sym, ap, _∙_, subst}
-use mathlib.Core.Bool.{Bool, true, false, not, _&&_, _||_}
+use mathlib.Core.Bool.{Bool, true, false, not, _||_}
 use mathlib.Core.List.{List, [], _∷_, _++_}
 use Prim.Native.Nat.{ℕ, zero, suc, _+_, _-_, _*_, _≤_, _<_, min}
 use native.Mathlib.Nat.{mul-le-mul-right}
@@ -10,28 +10,27 @@ use borrow.Author.Tests.{le-ltb, eq-eqb}
 use lib.Dec.{ltb, eqb}
 use lib.ListN.{length, getD, take, drop, set, replicate, length-append, length-take, length-drop, length-replicate, getD-replicate, List·getD-append}
 use lib.Seq.{drop-cons, set-at, getD-take, getD-drop, length-take-le}
-use Rattle.morph.specs.Line.{Entry}
 use Rattle.morph.specs.Picture.{Picture, applyStage}
 use Rattle.morph.specs.Plan.{columnQueue}
 use Rattle.morph.proofs.Line.{queue-start}
 use Rattle.sample.specs.Samples.{Samples}
-use Rattle.columns.specs.Columns.{soundRecords, columnAt}
+use Rattle.columns.specs.Columns.{soundRecords}
 use Rattle.columns.proofs.Column.{column-length}
 use Rattle.columns.proofs.Records.{sound-test}
 use Rattle.plan.specs.declared.Stage.{Stage}
 use Rattle.plan.specs.declared.Plan.{Plan}
-use Rattle.plan.specs.Numbers.{given, firstOf}
+use Rattle.plan.specs.Numbers.{given, sampleNumber, sizeNumber}
 use Rattle.plan.specs.Plan.{used, sizeOf, cellsOf, belowOf, filterOf, recordNumber, recordsNeeded, planAhead, planOf, stagesFrom, planNumber, planRead}
 use Rattle.plan.specs.declared.Reading.{Reading}
 use Rattle.plan.proofs.Named.{judged-reading}
-use Rattle.plan.proofs.Numbers.{first-one, first-skip, first-found, first-zero}
+use Rattle.plan.proofs.Numbers.{size-accepted, first-one, first-skip, first-found, first-zero}
 use Rattle.stage.specs.Stage.{Memory, StageHolds}
 use Rattle.chain.specs.Run.{frontOf, behind, allSound, Holds}
 use Rattle.picture.specs.declared.State.{State}
 use Rattle.picture.specs.declared.Started.{Started}
-use Rattle.picture.specs.Numbers.{sampleNumber, sizeNumber, memoryNumber, startNumber, stateNumber}
+use Rattle.picture.specs.Numbers.{memoryNumber, startNumber, stateNumber}
 use Rattle.picture.specs.Start.{firstState, noState, cleared, numbersNumber, Start}
-use Rattle.picture.proofs.Numbers.{plan-accepted, size-accepted, memory-accepted}
+use Rattle.picture.proofs.Numbers.{plan-accepted, memory-accepted}
 
 -- ---- the number
 

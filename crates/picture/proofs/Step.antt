@@ -1,31 +1,27 @@
 -- From the chain's step on the cut memory to the whole step's promise. By which idea: the stages look at no more than they need, so cutting the memory changes nothing.
 use mathlib.Core.Path.{_≡_, refl, sym, ap, _∙_, subst}
-use mathlib.Core.Bool.{Bool, true, false, not, cond, _&&_}
+use mathlib.Core.Bool.{Bool, true, false, not}
 use mathlib.Core.List.{List, [], _∷_, _++_, map}
 use Prim.Native.Nat.{ℕ, zero, suc, _+_, _-_, _*_, _≤_, _<_, min}
 use native.Mathlib.Nat.{zero-add, suc-add}
 use native.Mathlib.Omega.{arith}
 use borrow.Author.Tests.{leb-true, leb-false, eq-eqb, ne-eqb}
 use lib.Dec.{leb}
-use lib.ListN.{length, getD, take, drop, length-append, length-take, length-drop, take-append-drop}
+use lib.ListN.{length, take, drop, length-append, length-take, length-drop}
 use lib.Seq.{take-nil, length-take-le, take-take, take-at, drop-at}
-use Rattle.morph.specs.Order.{Order}
-use Rattle.morph.specs.Lists.{Each, all}
-use Rattle.morph.specs.Picture.{Picture, applyStage, applyPlan}
-use Rattle.morph.specs.Plan.{planCost}
+use Rattle.morph.specs.Lists.{all}
+use Rattle.morph.specs.Picture.{Picture, applyStage}
 use Rattle.sample.specs.Samples.{Samples, greys}
-use Rattle.columns.specs.Columns.{soundRecords}
 use Rattle.plan.specs.declared.Stage.{Stage}
 use Rattle.plan.specs.declared.Plan.{Plan}
-use Rattle.plan.specs.Plan.{Small, used, filterOf, stagesOf, sizeOf, belowOf, cellsOf, total, cellsNeeded, recordsNeeded, planAhead}
-use Rattle.stage.specs.Stage.{Memory, Whole, StageHolds}
+use Rattle.plan.specs.Plan.{used, filterOf, belowOf, cellsOf, total, cellsNeeded, recordsNeeded, planAhead}
+use Rattle.stage.specs.Stage.{Memory, StageHolds}
 use Rattle.chain.specs.Run.{frontOf, behind, allSound, Ready, Holds, PlanStep}
 use Rattle.picture.specs.declared.State.{State}
 use Rattle.picture.specs.declared.Answer.{Answer}
-use Rattle.picture.specs.declared.Answer.the-variants.{Row, NotYet, Refused}
 use Rattle.picture.specs.Step.{Said, row, notYet, refused, saidOf, saidAt, nextState, Advanced, firstBad, RowStep, DrainStep}
-use Rattle.picture.proofs.Numbers.{Shared, shared-accepted, used-small, drain-accepted}
-use Rattle.picture.specs.Fit.{Accepted, Run, Fit}
+use Rattle.picture.proofs.Numbers.{shared-accepted, used-small, drain-accepted}
+use Rattle.picture.specs.Fit.{Run, Fit}
 use Rattle.picture.specs.Numbers.{memoryJudged, offerNumber, rowNumber, drainJudged}
 use Rattle.plan.specs.Numbers.{given}
 use Rattle.plan.proofs.Numbers.{first-one, first-skip, first-found}
@@ -194,6 +190,45 @@ module _ (D t : ℕ) (due : Bool) (w : due ≡ leb D t) where
 
   pub early-said : (c : ℕ) (s : Said) → due ≡ false → s ≡ notYet c → s ≡ saidAt (leb D t) (t - D) c
   early-said c s d h = rw (← w, d) h
+
+-- ---- the same of the plan, the cells and the records as the code has them
+
+module _ {A : Type 0} (K : Samples A) (S : State) (M : Memory A) (plan : Plan) (cells records : ℕ) (same : (plan ≡ S .plan) × (length (S .plan .stages) ≡ 16))
+    (c : cells ≡ cellsNeeded plan (S .width)) (r : records ≡ recordsNeeded plan (S .width)) (h : Fit S M) (pixels : List A) (wide : length pixels ≡ S .width) where
+  pub run-ready : Ready (used plan) (length pixels) (frontOf cells records M)
+  run-ready = rw (wide, c, r, same .0) (fit-ready K S M (same .1) h)
+
+  -- what is needed comes back as F
+  abbrev pub put : Memory A → Memory A
+  put F = record {
+    values = F .values ++ drop cells (M .values);
+    positions = F .positions ++ drop cells (M .positions);
+    starts = F .starts ++ drop records (M .starts);
+    lengths = F .lengths ++ drop records (M .lengths);
+  }
+
+  module _ (F : Memory A) (pixels′ : List A) (n : ℕ) (due : Bool) (g : PlanStep K (used plan) (S .rows) (S .step) (frontOf cells records M) pixels F pixels′ n due) where
+    when : due ≡ leb (planAhead (S .plan)) (S .step)
+    when = g .when ∙ ap (λ (p : Plan). leb (planAhead p) (S .step)) (same .0)
+
+    pub ran-late : {L : ℕ} → due ≡ true → L ≡ planAhead plan → L ≤ S .step
+    ran-late d e = rw (e, same .0) (due-late (planAhead (S .plan)) (S .step) due when d)
+
+    module _ (answer : Answer) (S′ : State) (next : S′ ≡ nextState S) (within : S .step < S .rows + planAhead (S .plan)) (out : List A) where
+      stepped : (out′ : List A) → saidOf answer ≡ saidAt (leb (planAhead (S .plan)) (S .step)) (S .step - planAhead (S .plan)) n → (S .step < planAhead (S .plan) → out′ ≡ out)
+          → (planAhead (S .plan) ≤ S .step → out′ ≡ pixels′) → Advanced K S M pixels out (put F) out′ answer S′
+      stepped out′ said early late =
+          rw (c, r, same .0) (advanced K S M (same .1) h pixels wide F pixels′ n due (rw (c, r, same .0) at g) out out′ answer S′ next within said early late)
+
+      pub ran-due : {L : ℕ} (out′ : List A) → due ≡ true → L ≡ planAhead plan → saidOf answer ≡ row (S .step - L) n → out′ ≡ pixels′ → Advanced K S M pixels out (put F) out′ answer S′
+      ran-due {L} out′ d e s q =
+          stepped out′ (due-said (planAhead (S .plan)) (S .step) due when L n (saidOf answer) d (e ∙ ap planAhead (same .0)) s)
+          (λ k. absurd (late-not-early (planAhead (S .plan)) (S .step) due when d k)) (λ _. q)
+
+      pub ran-early : due ≡ false → saidOf answer ≡ notYet n → Advanced K S M pixels out (put F) out answer S′
+      ran-early d s =
+          stepped out (early-said (planAhead (S .plan)) (S .step) due when n (saidOf answer) d s) (λ _. refl)
+          (λ k. absurd (early-not-late (planAhead (S .plan)) (S .step) due when d k))
 
 -- ---- the two steps' promises, put together
 

@@ -1,26 +1,24 @@
 -- A step's outcome follows from its inputs: two outcomes that meet the promise are equal, the memory as the queues it holds and past the need. A refusal's outcome is equal in every cell.
-use mathlib.Core.Path.{_≡_, refl, sym, ap, _∙_}
-use mathlib.Core.Bool.{Bool, true, false, cond}
+use mathlib.Core.Path.{_≡_, sym, ap, _∙_}
 use mathlib.Core.List.{List, [], _∷_, map}
 use Prim.Native.Nat.{ℕ, _+_, _-_, _≤_, _<_}
 use native.Mathlib.Omega.{arith}
-use borrow.Author.Tests.{eqb-true, eqb-false, leb-true, leb-false}
-use lib.Dec.{eqb, leb}
-use lib.ListN.{length, getD}
-use Rattle.morph.specs.Order.{Order}
+use borrow.Author.Tests.{leb-true, leb-false}
+use lib.Dec.{leb}
+use lib.ListN.{getD}
 use Rattle.morph.specs.Lists.{Each}
 use Rattle.morph.specs.Picture.{Picture, Wide, Stage as Filter, applyStage, applyPlan}
 use Rattle.morph.proofs.Lists.{split}
 use Rattle.morph.proofs.Picture.{stage-wide, stage-each}
 use Rattle.sample.specs.Samples.{Samples}
-use Rattle.plan.specs.Plan.{used, stagesOf, cellsNeeded, recordsNeeded, planAhead}
+use Rattle.plan.specs.Plan.{used, cellsNeeded, recordsNeeded, planAhead}
 use Rattle.stage.specs.Stage.{Memory, Whole}
 use Rattle.chain.specs.Run.{behind, Holds}
 use Rattle.picture.specs.declared.State.{State}
 use Rattle.picture.specs.declared.Answer.{Answer}
 use Rattle.picture.specs.declared.Answer.the-variants.{Row, NotYet, Refused}
 use Rattle.picture.specs.Numbers.{rowNumber, drainJudged}
-use Rattle.picture.specs.Step.{Said, row, notYet, refused, saidOf, saidAt, nextState, Advanced, Unchanged, RowStep, DrainStep, columnOf}
+use Rattle.picture.specs.Step.{saidOf, saidAt, Advanced, Unchanged, RowStep, DrainStep}
 
 -- what an answer says tells the answer
 pub answer-same : (a b : Answer) → saidOf a ≡ saidOf b → a ≡ b

@@ -1,25 +1,17 @@
 -- The numbers of the picture's calls, test by test in document 01's order: 0 where nothing is wrong.
-use mathlib.Core.Bool.{Bool, cond, not, _||_}
+use mathlib.Core.Bool.{not, _||_}
 use mathlib.Core.List.{List, [], _∷_}
-use Prim.Native.Nat.{ℕ, _+_, _*_, _≤_, _<_, min}
+use Prim.Native.Nat.{ℕ, _+_, min}
 use lib.Dec.{eqb, ltb, leb}
-use lib.ListN.{length, getD}
+use lib.ListN.{length}
 use Rattle.morph.specs.Lists.{all}
 use Rattle.sample.specs.Samples.{Samples}
 use Rattle.plan.specs.declared.Plan.{Plan}
-use Rattle.plan.specs.Numbers.{given, firstOf}
+use Rattle.plan.specs.Numbers.{given, firstOf, sampleNumber, sizeNumber}
 use Rattle.plan.specs.Plan.{used, recordNumber, cellsNeeded, recordsNeeded, planAhead}
 use Rattle.stage.specs.Stage.{Memory}
 use Rattle.chain.specs.Run.{allSound}
 use Rattle.picture.specs.declared.State.{State}
-
--- "5 | sample kind is not 0 (grey) or 1 (float) .."
-abbrev pub sampleNumber : ℕ → ℕ
-sampleNumber sample = given 5 (ltb 1 sample)
-
--- "4 | width is 0 or over 4,096, or a row count .. is 0 or over 65,535"
-abbrev pub sizeNumber : ℕ → ℕ → ℕ
-sizeNumber width rows = given 4 (eqb width 0 || ltb 4096 width || eqb rows 0 || ltb 65535 rows)
 
 -- "6 | lent queue memory has fewer cells or column records than needed"
 unfoldable pub memoryNumber : Plan → ℕ → ℕ → ℕ → ℕ

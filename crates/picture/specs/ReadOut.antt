@@ -6,7 +6,6 @@ use Prim.Native.Nat.{ℕ, zero, suc}
 use lib.Dec.{leb}
 use lib.ListN.{length, getD}
 use lib.Ieee.{Float}
-use Rattle.morph.specs.Order.{Order}
 use Rattle.morph.specs.Line.{Entry}
 use Rattle.sample.specs.Samples.{Samples}
 use Rattle.columns.specs.Columns.{columnAt}

@@ -4,13 +4,12 @@ use mathlib.Core.List.{List, [], _∷_, _++_, map}
 use mathlib.Core.Option.{Option, none, some}
 use Prim.Native.Nat.{ℕ, _+_, _*_, _≤_}
 use lib.ListN.{length, getD}
-use Rattle.morph.specs.Order.{Order}
-use Rattle.morph.specs.Lists.{tabulate, sumTo}
+use Rattle.morph.specs.Lists.{tabulate}
 use Rattle.morph.specs.Picture.{Picture, rowAt}
 use Rattle.morph.specs.Plan.{planCost, stageBound}
 use Rattle.sample.specs.Samples.{Samples}
-use Rattle.plan.specs.Plan.{used, stagesOf, planAhead}
-use Rattle.stage.specs.Stage.{Memory, Whole}
+use Rattle.plan.specs.Plan.{used, stagesOf}
+use Rattle.stage.specs.Stage.{Memory}
 use Rattle.chain.specs.Run.{Holds}
 use Rattle.picture.specs.declared.State.{State}
 use Rattle.picture.specs.declared.Answer.{Answer}

@@ -1,14 +1,14 @@
 -- What a start promises: of its number, its state and the column records. It is handed no cells: an empty queue has none.
 use mathlib.Core.Path.{_≡_}
 use mathlib.Core.List.{List, [], _∷_, _++_}
-use Prim.Native.Nat.{ℕ, _*_}
+use Prim.Native.Nat.{ℕ}
 use lib.ListN.{drop, replicate}
 use Rattle.plan.specs.declared.Plan.{Plan}
-use Rattle.plan.specs.Numbers.{firstOf}
+use Rattle.plan.specs.Numbers.{firstOf, sampleNumber, sizeNumber}
 use Rattle.plan.specs.Plan.{planOf, stagesFrom, planNumber}
 use Rattle.picture.specs.declared.State.{State}
 use Rattle.picture.specs.declared.Started.{Started}
-use Rattle.picture.specs.Numbers.{sampleNumber, sizeNumber, memoryNumber}
+use Rattle.picture.specs.Numbers.{memoryNumber}
 
 -- a run of a plan before its first step
 abbrev pub firstState : Plan → ℕ → ℕ → ℕ → State

@@ -5,11 +5,9 @@ use mathlib.Core.List.{List, [], _∷_, map}
 use Prim.Native.Nat.{ℕ, suc, _+_, _-_, _≤_, _<_}
 use lib.Dec.{eqb, leb}
 use lib.ListN.{length, getD}
-use Rattle.morph.specs.Order.{Order}
 use Rattle.morph.specs.Picture.{Picture, applyPlan}
 use Rattle.morph.specs.Plan.{planCost}
 use Rattle.sample.specs.Samples.{Samples}
-use Rattle.plan.specs.declared.Plan.{Plan}
 use Rattle.plan.specs.Plan.{used, stagesOf, cellsNeeded, recordsNeeded, planAhead}
 use Rattle.stage.specs.Stage.{Memory, Whole}
 use Rattle.chain.specs.Run.{behind, Holds, allSound}

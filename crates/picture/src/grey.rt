@@ -1,8 +1,7 @@
 // Pictures of grey bytes.
 
 ghost use mathlib.Core.Path.{_≡_};
-ghost use mathlib.Core.List.{[]};
-ghost use Prim.Native.Nat.{ℕ, _+_, _≤_, _<_};
+ghost use Prim.Native.Nat.{_+_, _<_};
 ghost use lib.ListN.{length};
 ghost use Rattle.sample.specs.Samples.{greys};
 ghost use Rattle.plan.specs.Plan.{planAhead};
@@ -10,9 +9,9 @@ ghost use Rattle.picture.specs.Fit.{Fit};
 ghost use Rattle.picture.specs.Step.{Advanced, RowStep, DrainStep};
 ghost use Rattle.columns.specs.Columns.{Lent, columnAt};
 ghost use Rattle.picture.specs.ReadOut.{found, refused, greyShown, shownAt, Shows};
-use crate::Answer;
 use crate::State;
 use crate::Stepped;
+use morph::wide;
 use queue::grey::Entry;
 
 // A step that is accepted, over a row of the width that the stages may write on.
@@ -73,7 +72,7 @@ pub fn row(
 ) -> Stepped
     ensures { λ r. ⌜ RowStep greys 0 state (record { values = now (values .entry); positions = now (positions .entry); starts = now (starts .entry); lengths = now (lengths .entry) }) (now (row .entry)) (now (out .entry)) (record { values = now (values .exit); positions = now (positions .exit); starts = now (starts .exit); lengths = now (lengths .exit) }) (now (out .exit)) (r .answer) (r .state) ⌝ }
 {
-    let number = crate::judge_row(
+    let number = crate::judging::judge_row(
         0,
         state,
         row.len(),
@@ -111,7 +110,7 @@ pub fn drain(
 ) -> Stepped
     ensures { λ r. ⌜ DrainStep greys 0 state (record { values = now (values .entry); positions = now (positions .entry); starts = now (starts .entry); lengths = now (lengths .entry) }) (now (out .entry)) (record { values = now (values .exit); positions = now (positions .exit); starts = now (starts .exit); lengths = now (lengths .exit) }) (now (out .exit)) (r .answer) (r .state) ⌝ }
 {
-    let number = crate::judge_drain(
+    let number = crate::judging::judge_drain(
         0,
         state,
         out.len(),
@@ -167,7 +166,7 @@ fn show<'a>(
     requires { ⌜ Lent places (length (now starts)) (now positions) (now starts) (now lengths) × (length (now values) ≡ length (now positions)) × (x < length (now starts)) ⌝ }
     ensures { λ r. ⌜ greyShown r ≡ shownAt greys (columnAt greys places (now (values .entry)) (now (positions .entry)) (now (starts .entry)) (now (lengths .entry)) x) k ⌝ }
 {
-    if crate::wide(lengths[x]) <= k {
+    if wide(lengths[x]) <= k {
         return lacks(11);
     }
     finds(columns::grey::entry(places, values, positions, starts, x, k))
@@ -186,7 +185,7 @@ pub fn read_out<'a>(
 ) -> ReadOut
     ensures { λ r. ⌜ Shows greys 0 state (record { values = now (values .entry); positions = now (positions .entry); starts = now (starts .entry); lengths = now (lengths .entry) }) stage column place (greyShown r) ⌝ }
 {
-    let number = crate::judge_place(
+    let number = crate::place::judge_place(
         0,
         state,
         stage,
@@ -202,7 +201,7 @@ pub fn read_out<'a>(
     let own = state.plan;
     let plan = crate::whole(own);
     let width = state.width;
-    let part = crate::part_of(plan, stage, width);
+    let part = crate::place::part_of(plan, stage, width);
     let places = part.places;
     let lo = part.cells;
     let hi = lo + width * places;

@@ -12,12 +12,12 @@ use Rattle.morph.specs.declared.Kind.{Kind}
 use Rattle.morph.specs.declared.Kind.the-variants.{Erosion, Dilation}
 use Rattle.morph.specs.Order.{Order}
 use Rattle.morph.specs.Picture.{Stage as Filter, lookAhead, opening, closing, alternating}
-use Rattle.morph.proofs.Lists.{length-tabulate, getD-tabulate}
+use Rattle.morph.proofs.Lists.{neither, length-tabulate, getD-tabulate}
 use Rattle.plan.specs.declared.Stage.{Stage}
 use Rattle.plan.specs.declared.Plan.{Plan}
 use Rattle.plan.specs.declared.Reading.{Reading}
 use Rattle.plan.specs.Plan.{unused, planOf, used, Small, filterOf, stagesOf, belowOf, total, planAhead, countNumber, extentNumber, orderNumber, kindNumber, recordStageNumber, recordStagesNumber, recordNumber, stageNumber, stageFrom, stagesFrom, stagesNumber, planNumber, answered, pairStages, openingStages, closingStages, sequenceStages, alternatingStages}
-use Rattle.plan.proofs.Numbers.{first-one, first-zero, all-zero, none-refused, given-zero, neither}
+use Rattle.plan.proofs.Numbers.{first-one, first-zero, all-zero, none-refused, given-zero}
 use Rattle.plan.proofs.Laws.{used-plan, count-accepted, count-zero}
 
 -- ---- what an accepted plan has

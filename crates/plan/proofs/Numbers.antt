@@ -1,16 +1,18 @@
 -- Laws of the first broken rule. A loop that judges one thing after another carries `firstOf (drop i l) ≡ firstOf l`: what is left decides.
 use mathlib.Core.Path.{_≡_, refl, sym, ap, _∙_}
-use mathlib.Core.Bool.{Bool, true, false, _||_, false≢true}
+use mathlib.Core.Bool.{Bool, true, false, _||_}
 use mathlib.Core.List.{List, [], _∷_}
 use Prim.Native.Nat.{ℕ, zero, suc, _+_, _≤_, _<_}
 use native.Mathlib.Nat.{not-suc-le-zero}
 use native.Mathlib.Numerals.{add-one}
 use native.Mathlib.Omega.{arith}
+use borrow.Author.Tests.{eqb-false, ltb-false}
+use lib.Dec.{eqb, ltb}
 use lib.ListN.{length, drop, drop-of-length-le}
 use lib.Seq.{drop-cons}
 use Rattle.morph.specs.Lists.{tabulate}
-use Rattle.morph.proofs.Lists.{length-tabulate, getD-tabulate}
-use Rattle.plan.specs.Numbers.{given, firstOf}
+use Rattle.morph.proofs.Lists.{neither, length-tabulate, getD-tabulate}
+use Rattle.plan.specs.Numbers.{given, firstOf, sizeNumber}
 
 -- ---- one rule after another
 
@@ -35,9 +37,15 @@ pub given-zero : (n : ℕ) (b : Bool) → given (suc n) b ≡ 0 → b ≡ false
 given-zero n true e = absurd (omega arith)
 given-zero n false e = refl
 
-pub neither : (a b : Bool) → (a || b) ≡ false → (a ≡ false) × (b ≡ false)
-neither true b e = absurd (false≢true (sym e))
-neither false b e = (refl, e)
+-- what an accepted size is
+pub size-accepted : (width rows : ℕ) → sizeNumber width rows ≡ 0 → (0 < width) × (width ≤ 4096) × (0 < rows) × (rows ≤ 65535)
+size-accepted width rows e =
+    let (a, b) = neither (eqb width 0 || ltb 4096 width || eqb rows 0) _ (given-zero 3 _ e) in
+    let (c, d) = neither (eqb width 0 || ltb 4096 width) _ a in
+    let (f, g) = neither (eqb width 0) _ c in
+    let w = eqb-false width 0 f in
+    let r = eqb-false rows 0 d in
+    (omega (arith, w), ltb-false 4096 width g, omega (arith, r), ltb-false 65535 rows b)
 
 -- ---- a loop that judges n things, f giving the number of each
 

@@ -1,10 +1,16 @@
 // Stage and plan records: reading them from numbers, judging them, the named plans, the memory and the look-ahead that a plan needs.
 ghost use mathlib.Core.Path.{_≡_};
 ghost use mathlib.Core.List.{[]};
-ghost use Prim.Native.Nat.{_+_, _*_, _≤_, _<_};
+ghost use Prim.Native.Nat.{_+_, _≤_, _<_};
 ghost use Rattle.morph.specs.Order.{backOf, aheadOf};
 ghost use Rattle.plan.specs.Plan.{planOf, added, addedAll, sequenceStages, sizeOf, belowOf, cellsNeeded, recordsNeeded, planAhead, countNumber, kindFrom, extentNumber, orderNumber, recordNumber, stageFrom, stageNumber, stagesFrom, stagesNumber, planRead, answered, pairStages, openingStages, closingStages, withExtents, alternatingStages};
 use morph::Kind;
+use morph::wide;
+
+mod image; // image.rt: the numbers of an image's head
+
+pub use image::judge_sample;
+pub use image::judge_size;
 
 // A rectangle of four extents, and what is done with it.
 pub struct Stage {
@@ -25,12 +31,6 @@ pub struct Plan {
 pub struct Reading {
     pub number: u8,
     pub plan: Plan,
-}
-
-fn wide(x: u8) -> usize
-    ensures { λ r. ⌜ (r ≡ x) × (r < 256) ⌝ }
-{
-    x as usize
 }
 
 // The plan of no stages: all zeros, kind erosion.

@@ -1,12 +1,13 @@
 -- Laws of the loops over a row, and of the answer by its number.
 use mathlib.Core.Path.{_≡_, refl, sym, ap, _∙_}
-use mathlib.Core.Bool.{Bool, true, false, _||_, false≢true}
+use mathlib.Core.Bool.{Bool, false, _||_}
 use mathlib.Core.List.{List}
 use mathlib.Core.Logic.{⊎-elim}
 use Prim.Native.Nat.{ℕ, zero, suc, _+_, _<_}
 use native.Mathlib.Nat.{not-suc-le-zero, eq-or-lt-of-le, le-of-suc-le-suc}
 use native.Mathlib.Numerals.{add-one}
 use Rattle.morph.specs.Lists.{sumTo}
+use Rattle.morph.proofs.Lists.{neither}
 use Rattle.residue.specs.declared.Residue.{Residue}
 use Rattle.residue.specs.declared.Residue.the-variants.{Sum, Refused}
 use Rattle.residue.specs.Residue.{rowResidue, someTo, residueNumber, answerOf, Answered}
@@ -16,10 +17,6 @@ sum-next n f e q = rw (add-one n, e, q) refl
 
 pub some-next : (n : ℕ) (p : ℕ → Bool) {s t : Bool} → t ≡ (p n || s) → s ≡ someTo n p → t ≡ someTo (n + 1) p
 some-next n p e q = rw (add-one n) (e ∙ ap (λ s. p n || s) q)
-
-neither : (a b : Bool) → (a || b) ≡ false → (a ≡ false) × (b ≡ false)
-neither true b e = absurd (false≢true (sym e))
-neither false b e = (refl, e)
 
 pub none-at : (n : ℕ) (p : ℕ → Bool) → someTo n p ≡ false → (k : ℕ) → k < n → p k ≡ false
 none-at zero p e k h = absurd (not-suc-le-zero h)

@@ -1,6 +1,6 @@
 // The dark residue of a row: how much lighter a closing made it, added over all columns.
 ghost use mathlib.Core.Path.{_≡_};
-ghost use mathlib.Core.Bool.{true, false, _||_};
+ghost use mathlib.Core.Bool.{false, _||_};
 ghost use Prim.Native.Nat.{_-_, _≤_, _<_};
 ghost use lib.Dec.{ltb};
 ghost use lib.ListN.{length};

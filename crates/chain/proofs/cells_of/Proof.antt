@@ -6,9 +6,6 @@ use Rattle.plan.proofs.Laws.{mul-most}
 use borrow.Author.Needs.{needs}
 use Rattle.chain.proofs.cells_of.Statement.{statement}
 use Rattle.chain.proofs.cells_of.Tie as tie
-use Rattle.chain.proofs.cells_of.Reads as reads
-use Rattle.chain.proofs.cells_of.Lts as lts
-use Rattle.plan.proofs.size_of.Reads as size-of-reads
 
 size-of-requires : tie.Need-size-of-requires
 size-of-requires c κs = search needs

@@ -4,9 +4,6 @@ use Rattle.firmware.specs.Row.{rowNumber}
 use borrow.Author.Needs.{needs}
 use Rattle.firmware.proofs.judge.Statement.{statement}
 use Rattle.firmware.proofs.judge.Tie as tie
-use Rattle.firmware.proofs.judge.Reads as reads
-use Rattle.firmware.proofs.judge.Lts as lts
-use Rattle.line.proofs.judge.start.Reads as start-reads
 
 start-requires : tie.Need-start-requires
 start-requires c κs = search needs

@@ -1,19 +1,11 @@
 -- `kelafshir_filter_row` meets its contract: the row is copied, and the copy filtered in place.
-use mathlib.Core.Path.{refl, sym, _∙_}
+use mathlib.Core.Path.{refl, sym}
 use native.Mathlib.Omega.{arith}
 use Rattle.line.proofs.Numbers.{back-fits, ahead-fits}
 use Rattle.firmware.proofs.Laws.{accepted, row-zero, filtered}
 use borrow.Author.Needs.{needs}
 use Rattle.firmware.proofs.kelafshir_filter_row.Statement.{statement}
 use Rattle.firmware.proofs.kelafshir_filter_row.Tie as tie
-use Rattle.firmware.proofs.kelafshir_filter_row.Reads as reads
-use Rattle.firmware.proofs.kelafshir_filter_row.Lts as lts
-use Rattle.firmware.proofs.judge.Reads as judge-reads
-use Rattle.line.proofs.judge.ahead.Reads as ahead-reads
-use Rattle.line.proofs.judge.back.Reads as back-reads
-use Rattle.line.proofs.judge.kind_of.Reads as kind-of-reads
-use Rattle.row.proofs.grey.across.Reads as across-reads
-use Rattle.sample.proofs.grey.copy.Reads as copy-reads
 
 judge-requires : tie.Need-judge-requires
 judge-requires c κs = search needs

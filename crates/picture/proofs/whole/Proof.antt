@@ -3,8 +3,6 @@ use mathlib.Core.Path.{refl, sym, _∙_}
 use lib.ListN.{length-map}
 use Rattle.picture.proofs.whole.Statement.{statement}
 use Rattle.picture.proofs.whole.Tie as tie
-use Rattle.picture.proofs.whole.Reads as reads
-use Rattle.picture.proofs.whole.Lts as lts
 
 returns : tie.Need-returns
 returns c = (refl, sym (length-map (c .args .plan .stages) _) ∙ c .good .0 .1 .1 .1 .0 .1 .0 .1)

@@ -3,9 +3,9 @@ use native.Mathlib.Omega.{arith}
 use borrow.Author.Needs.{needs}
 use lib.ListN.{length, length-map}
 use Rattle.sample.specs.Samples.{greys}
-use Rattle.chain.proofs.Run.{after-none, after-more, ready-begins, ready-rest, plan-none, plan-early, rest-ready, plan-back}
+use Rattle.chain.proofs.Run.{after-none, after-more, ready-begins, plan-none, plan-early, rest-ready, plan-back}
 use borrow.Rule.Slice.PartMut.{same-len-mid}
-use mathlib.Core.Path.{_≡_, refl, sym, ap, _∙_}
+use mathlib.Core.Path.{_≡_, sym, _∙_}
 use borrow.Fn.Kinds.{In}
 use borrow.Fn.PlainCycle.{Measures, is, falls, and}
 use Rattle.chain.proofs.grey.run.Reads as run
@@ -68,7 +68,7 @@ run-same-length : (t : ℕ) → run-lts.Need-same-length (
   run-below t,
   run.Post,
 ) (run-at t) run.Post
-run-same-length t c = search needs
+run-same-length t c = c .before .before .before .before .before .before .before .before .before .before .before .run-front .kept .1 .1 .1 .0
 
 run-same-length-2 : (t : ℕ) → run-lts.Need-same-length-2 (
   run-front-reads.Asked,
@@ -76,7 +76,7 @@ run-same-length-2 : (t : ℕ) → run-lts.Need-same-length-2 (
   run-below t,
   run.Post,
 ) (run-at t) run.Post
-run-same-length-2 t c = search needs
+run-same-length-2 t c = c .before .before .before .before .before .before .before .before .before .before .before .run-front .kept .1 .1 .1 .1 .0
 
 run-same-length-3 : (t : ℕ) → run-lts.Need-same-length-3 (
   run-front-reads.Asked,
@@ -84,7 +84,7 @@ run-same-length-3 : (t : ℕ) → run-lts.Need-same-length-3 (
   run-below t,
   run.Post,
 ) (run-at t) run.Post
-run-same-length-3 t c = search needs
+run-same-length-3 t c = c .before .before .before .before .before .before .before .before .before .before .before .run-front .kept .1 .1 .1 .1 .1 .0
 
 run-same-length-4 : (t : ℕ) → run-lts.Need-same-length-4 (
   run-front-reads.Asked,
@@ -92,7 +92,7 @@ run-same-length-4 : (t : ℕ) → run-lts.Need-same-length-4 (
   run-below t,
   run.Post,
 ) (run-at t) run.Post
-run-same-length-4 t c = search needs
+run-same-length-4 t c = c .before .before .before .before .before .before .before .before .before .before .before .run-front .kept .1 .1 .1 .1 .1 .1 .0
 
 run-same-length-5 : (t : ℕ) → run-lts.Need-same-length-5 (
   run-front-reads.Asked,
@@ -100,7 +100,7 @@ run-same-length-5 : (t : ℕ) → run-lts.Need-same-length-5 (
   run-below t,
   run.Post,
 ) (run-at t) run.Post
-run-same-length-5 t c = search needs
+run-same-length-5 t c = c .before .before .before .before .before .before .before .before .before .before .before .run-front .kept .1 .1 .1 .1 .1 .1 .1 .0
 
 run-returns-2 : (t : ℕ) → run-lts.Need-returns-2 (
   run-front-reads.Asked,

@@ -7,11 +7,6 @@ use Rattle.chain.proofs.Run.{parts-long, begins-lent, front-joined, fro
 use borrow.Author.Needs.{needs}
 use Rattle.chain.proofs.grey.run_front.Statement.{statement}
 use Rattle.chain.proofs.grey.run_front.Tie as tie
-use Rattle.chain.proofs.grey.run_front.Reads as reads
-use Rattle.chain.proofs.grey.run_front.Lts as lts
-use Rattle.chain.proofs.cells_of.Reads as cells-of-reads
-use Rattle.plan.proofs.below.Reads as below-reads
-use Rattle.stage.proofs.grey.step.Reads as step-reads
 
 cells-of-requires : tie.Need-cells-of-requires
 cells-of-requires c κs = search needs

@@ -9,12 +9,6 @@ use Rattle.picture.proofs.Step.{judged-fit, refuses-drain, accepts-drai
 use borrow.Author.Needs.{needs}
 use Rattle.picture.proofs.grey.drain.Statement.{statement}
 use Rattle.picture.proofs.grey.drain.Tie as tie
-use Rattle.picture.proofs.grey.drain.Reads as reads
-use Rattle.picture.proofs.grey.drain.Lts as lts
-use Rattle.picture.proofs.grey.advance.Reads as advance-reads
-use Rattle.picture.proofs.grey.blank.Reads as blank-reads
-use Rattle.picture.proofs.judge_drain.Reads as judge-drain-reads
-use Rattle.picture.proofs.refuses.Reads as refuses-reads
 
 judge-drain-requires : tie.Need-judge-drain-requires
 judge-drain-requires c κs = search needs
@@ -53,19 +47,19 @@ advance-requires c κs =
     (f, length-take-le _ _ (omega (arith, f .run .narrow, c .before .before .before .before .before .before .blank .ensures)) ∙ w, w, d)
 
 same-length-3 : tie.Need-same-length-3
-same-length-3 c = search needs
+same-length-3 c = c .before .before .before .before .before .before .before .before .before .before .before .advance .kept .1 .1 .0
 
 same-length-4 : tie.Need-same-length-4
-same-length-4 c = search needs
+same-length-4 c = c .before .before .before .before .before .before .before .before .before .before .before .advance .kept .1 .1 .1 .0
 
 same-length-5 : tie.Need-same-length-5
-same-length-5 c = search needs
+same-length-5 c = c .before .before .before .before .before .before .before .before .before .before .before .advance .kept .1 .1 .1 .1 .0
 
 same-length-6 : tie.Need-same-length-6
-same-length-6 c = search needs
+same-length-6 c = c .before .before .before .before .before .before .before .before .before .before .before .advance .kept .1 .1 .1 .1 .1 .0
 
 same-length-7 : tie.Need-same-length-7
-same-length-7 c = search needs
+same-length-7 c = c .before .before .before .before .before .before .before .before .before .before .before .advance .kept .1 .1 .1 .1 .1 .1 .0
 
 returns-2 : tie.Need-returns-2
 returns-2 c = accepts-drain greys 0 (c .before .before .before .before .before .before .before .before .before .before .before .before .before .before .before .before .before .before .before .before .before .before .before .before .before .before .before .before .args .state) (record { values = c .before .before .before .before .before .before .before .before .before .before .before .before .before .before .before .before .before .before .before .before .before .before .before .before .before .before .before .before .args .values .now; positions = c .before .before .before .before .before .before .before .before .before .before .before .before .before .before .before .before .before .before .before .before .before .before .before .before .before .before .before .before .args .positions .now; starts = c .before .before .before .before .before .before .before .before .before .before .before .before .before .before .before .before .before .before .before .before .before .before .before .before .before .before .before .before .args .starts .now; lengths = c .before .before .before .before .before .before .before .before .before .before .before .before .before .before .before .before .before .before .before .before .before .before .before .before .before .before .before .before .args .lengths .now }) _ _ _ _ _ _ (sym (c .before .before .before .before .before .before .before .before .before .before .before .before .before .before .before .before .before .before .before .before .judge-drain .ensures) ∙ c .before .before .before .before .before .before .before .before .before .before .before .before .before .before .before .before .before .before .before .if1 .left) (c .before .before .before .before .before .before .before .before .before .before .before .advance .ensures)

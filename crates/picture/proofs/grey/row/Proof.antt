@@ -9,13 +9,6 @@ use Rattle.picture.proofs.Step.{judged-fit, refuses-row, accepts-row, a
 use borrow.Author.Needs.{needs}
 use Rattle.picture.proofs.grey.row.Statement.{statement}
 use Rattle.picture.proofs.grey.row.Tie as tie
-use Rattle.picture.proofs.grey.row.Reads as reads
-use Rattle.picture.proofs.grey.row.Lts as lts
-use Rattle.picture.proofs.grey.advance.Reads as advance-reads
-use Rattle.picture.proofs.grey.blank.Reads as blank-reads
-use Rattle.picture.proofs.judge_row.Reads as judge-row-reads
-use Rattle.picture.proofs.refuses.Reads as refuses-reads
-use Rattle.sample.proofs.grey.copy.Reads as copy-reads
 
 judge-row-requires : tie.Need-judge-row-requires
 judge-row-requires c κs = search needs
@@ -66,19 +59,19 @@ advance-requires c κs =
     (f, ap length (take-at (c .before .before .before .before .before .before .before .copy .last .1 .0) _ _ (ap length (c .before .before .before .before .before .before .before .copy .ensures)) ∙ c .before .before .before .before .before .before .before .copy .ensures) ∙ w, o, omega arith)
 
 same-length-3 : tie.Need-same-length-3
-same-length-3 c = search needs
+same-length-3 c = c .before .before .before .before .before .before .before .before .before .before .before .advance .kept .1 .1 .0
 
 same-length-4 : tie.Need-same-length-4
-same-length-4 c = search needs
+same-length-4 c = c .before .before .before .before .before .before .before .before .before .before .before .advance .kept .1 .1 .1 .0
 
 same-length-5 : tie.Need-same-length-5
-same-length-5 c = search needs
+same-length-5 c = c .before .before .before .before .before .before .before .before .before .before .before .advance .kept .1 .1 .1 .1 .0
 
 same-length-6 : tie.Need-same-length-6
-same-length-6 c = search needs
+same-length-6 c = c .before .before .before .before .before .before .before .before .before .before .before .advance .kept .1 .1 .1 .1 .1 .0
 
 same-length-7 : tie.Need-same-length-7
-same-length-7 c = search needs
+same-length-7 c = c .before .before .before .before .before .before .before .before .before .before .before .advance .kept .1 .1 .1 .1 .1 .1 .0
 
 returns-2 : tie.Need-returns-2
 returns-2 c =

@@ -5,10 +5,6 @@ use Rattle.sample.specs.Samples.{rates}
 use borrow.Author.Needs.{needs}
 use Rattle.picture.proofs.rate.take_in.Statement.{statement}
 use Rattle.picture.proofs.rate.take_in.Tie as tie
-use Rattle.picture.proofs.rate.take_in.Reads as reads
-use Rattle.picture.proofs.rate.take_in.Lts as lts
-use Rattle.sample.proofs.rate.clean.Reads as clean-reads
-use Rattle.sample.proofs.rate.copy.Reads as copy-reads
 
 copy-requires : tie.Need-copy-requires
 copy-requires c κs = search needs
