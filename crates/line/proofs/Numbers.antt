@@ -1,9 +1,9 @@
 -- What a line's numbers tell: a line that is not broken is sound, and an accepted call has what it needs.
 use mathlib.Core.Path.{_≡_, refl, sym}
-use mathlib.Core.Bool.{Bool, true, false, cond, _||_, false≢true}
+use mathlib.Core.Bool.{Bool, true, false, _||_, false≢true}
 use Prim.Native.Nat.{ℕ, zero, suc, _+_, _≤_, _<_}
 use native.Mathlib.Omega.{arith}
-use borrow.Author.Tests.{ltb-true, ltb-false, leb-true, leb-false, eqb-true, eqb-false, le-ltb, lt-leb, ne-eqb}
+use borrow.Author.Tests.{ltb-false, leb-false, eqb-false, le-ltb, lt-leb, ne-eqb}
 use lib.Dec.{ltb, leb, eqb}
 use Rattle.morph.specs.declared.Kind.{Kind}
 use Rattle.morph.specs.declared.Kind.the-variants.{Erosion, Dilation}

@@ -1,31 +1,29 @@
 -- Whole runs. By which idea: each accepted step takes the line's queue one step on and answers as the line does, and a refused call changes nothing.
 use mathlib.Core.Path.{_≡_, refl, sym, ap, _∙_, subst}
-use mathlib.Core.Bool.{Bool, true, false, cond, _&&_}
-use mathlib.Core.Logic.{_≢_}
+use mathlib.Core.Bool.{true, false}
 use mathlib.Core.List.{List, [], _∷_, _++_, map, append-nil}
-use mathlib.Core.Option.{Option, none, some}
-use Prim.Native.Nat.{ℕ, zero, suc, _+_, _-_, _*_, _≤_, _<_, min}
-use native.Mathlib.Nat.{not-suc-le-zero, zero-sub, add-zero}
+use Prim.Native.Nat.{ℕ, zero, suc, _+_, _-_, _≤_, _<_, min}
+use native.Mathlib.Nat.{not-suc-le-zero, zero-sub}
 use native.Mathlib.Numerals.{add-one}
 use native.Mathlib.Omega.{arith}
-use borrow.Author.Tests.{leb-true, leb-false, ltb-false, eqb-false, lt-ltb, le-ltb}
-use lib.Dec.{leb, ltb, eqb}
-use lib.ListN.{length, take, getD, length-map, length-drop, length-take, length-append}
+use borrow.Author.Tests.{leb-true, leb-false, lt-ltb}
+use lib.Dec.{leb}
+use lib.ListN.{length, getD, length-map, length-drop, length-take}
 use lib.Seq.{slice}
 use lib.Ieee.{Float}
 use lib.Ieee.Scale.{finite}
 use Rattle.morph.specs.Order.{Order, aheadOf}
 use Rattle.morph.specs.Rate.{plusZero}
-use Rattle.morph.specs.Lists.{tabulate, Each, In, sumTo}
-use Rattle.morph.specs.Line.{Entry, outputAt, best, bestAt, filterLine, queue, lineCost, lineCosts}
-use Rattle.morph.proofs.Lists.{split, length-tabulate, getD-tabulate, take-tabulate, tabulate-snoc, each-map, each-weaken, each-tabulate, each-getD, in-each, in-slice, place-in}
+use Rattle.morph.specs.Lists.{tabulate, Each, In}
+use Rattle.morph.specs.Line.{Entry, outputAt, bestAt, filterLine, queue, lineCost, lineCosts}
+use Rattle.morph.proofs.Lists.{split, length-tabulate, getD-tabulate, take-tabulate, tabulate-snoc, each-map, each-weaken, each-tabulate, in-each, in-slice, place-in}
 use Rattle.morph.proofs.Line.{best-in, queue-start, costs-bound}
 use Rattle.sample.specs.Samples.{Samples, rates}
 use Rattle.sample.specs.Rate.{accepted}
 use Rattle.sample.proofs.Floats.{accepted-plus}
 use Rattle.queue.proofs.Laws.{listed-none}
-use Rattle.line.specs.Numbers.{kindOf, windowOf, startNumber, extentOver, pixelsOff, Sound}
-use Rattle.line.specs.Steps.{State, Said, pixel, notYet, refused, sayAt, firstState, Start, Broken, ReadNumber, DrainNumber, Queue, LeftBy, saidOver, Follows, Accepts, Reads, Drains}
+use Rattle.line.specs.Numbers.{kindOf}
+use Rattle.line.specs.Steps.{State, Said, pixel, notYet, refused, sayAt, firstState, Start, Broken, ReadNumber, DrainNumber, Queue, LeftBy, saidOver, Accepts}
 use Rattle.line.specs.Runs.{Run, started, offered, drained, offer-refused, drain-refused, pixelOf, comparisonsOf, pixelsOf, together, order, back, ahead, window, taken, saidAt, Ran}
 use Rattle.line.proofs.Numbers.{sound-broken, broken-sound, start-zero, read-zero, sound-read, sound-drain}
 use Rattle.line.proofs.Steps.{SoundState}

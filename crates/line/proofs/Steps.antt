@@ -1,6 +1,6 @@
 -- From what the code of a step finds to its promise. By which idea: the queue's laws of crate row over every line that could have left the state.
 use mathlib.Core.Path.{_≡_, refl, sym, ap, _∙_}
-use mathlib.Core.Bool.{Bool, true, false, cond}
+use mathlib.Core.Bool.{Bool, false}
 use mathlib.Core.Logic.{_≢_}
 use mathlib.Core.List.{List}
 use Prim.Native.Nat.{ℕ, suc, _+_, _-_, _≤_, _<_}
@@ -11,8 +11,7 @@ use lib.Dec.{leb}
 use lib.ListN.{length, getD, set, replicate, length-set}
 use Rattle.morph.specs.declared.Kind.{Kind}
 use Rattle.morph.specs.declared.Kind.the-variants.{Erosion}
-use Rattle.morph.specs.Order.{Order}
-use Rattle.morph.specs.Line.{Entry, bestAt, queue, lineCost}
+use Rattle.morph.specs.Line.{queue, lineCost}
 use Rattle.morph.specs.Ring.{wrap}
 use Rattle.morph.proofs.Lists.{split}
 use Rattle.morph.proofs.Line.{cost-drain}
@@ -22,7 +21,7 @@ use Rattle.queue.specs.declared.Room.{Room}
 use Rattle.queue.proofs.Laws.{listed-at}
 use Rattle.row.proofs.Row.{queue-next, queue-drained, front-answer}
 use Rattle.line.specs.Numbers.{Sound, kindOf, startNumber, readNumber}
-use Rattle.line.specs.Steps.{State, Said, pixel, notYet, refused, Shown, entry, notShown, sayAt, Broken, ReadNumber, ReadOutNumber, Queue, O, B, F, L, LeftBy, saidOver, onward, Refuses, Follows, Accepts, Answers, shownAt, firstState, Start}
+use Rattle.line.specs.Steps.{State, Said, entry, notShown, sayAt, Broken, ReadNumber, ReadOutNumber, O, B, F, L, LeftBy, saidOver, onward, Refuses, Accepts, Answers, shownAt, firstState, Start}
 use Rattle.line.proofs.Numbers.{broken-sound}
 
 module _ {A : Type 0} (K : Samples A) (s : State A) where

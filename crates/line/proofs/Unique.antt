@@ -1,14 +1,14 @@
 -- "For each public function the answer, the state .. afterwards follow from its inputs alone, also on a refusal": two outcomes that meet a promise are equal.
 -- By which idea: the queue after s steps rests on the first s pixels, so any accepted pixel can stand next in a line that left the state.
 use mathlib.Core.Path.{_≡_, refl, sym, ap, _∙_}
-use mathlib.Core.Bool.{Bool, true, false}
+use mathlib.Core.Bool.{false}
 use mathlib.Core.Logic.{_≢_}
 use mathlib.Core.List.{List, [], _∷_}
-use Prim.Native.Nat.{ℕ, zero, suc, _+_, _-_, _<_}
+use Prim.Native.Nat.{ℕ, zero, suc, _+_, _-_}
 use native.Mathlib.Omega.{arith}
 use borrow.Author.Tests.{eqb-true, eqb-false}
 use lib.Dec.{eqb}
-use lib.ListN.{length, take, drop, getD, set, length-set}
+use lib.ListN.{take, drop, getD, set, length-set}
 use lib.Ieee.{Float}
 use lib.Seq.{take-set-le, getD-set-same}
 use Rattle.morph.specs.Order.{Order}
@@ -17,7 +17,7 @@ use Rattle.morph.specs.Line.{positioned, standing, queue}
 use Rattle.morph.proofs.Lists.{split}
 use Rattle.sample.specs.Samples.{Samples}
 use Rattle.line.specs.Numbers.{startNumber, readNumber, drainNumber}
-use Rattle.line.specs.Steps.{State, Said, pixel, notYet, refused, Shown, entry, notShown, Start, Broken, ReadNumber, DrainNumber, O, L, LeftBy, Follows, Accepts, Answers, Reads, Drains, shownAt, Same}
+use Rattle.line.specs.Steps.{State, Said, pixel, notYet, refused, Shown, entry, notShown, Start, Broken, ReadNumber, DrainNumber, O, L, LeftBy, Accepts, Answers, Reads, Drains, shownAt, Same}
 use Rattle.line.specs.Grey as grey
 use Rattle.line.specs.Rate as rate
 use Rattle.line.specs.declared.grey.Line.{Line}

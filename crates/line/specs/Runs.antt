@@ -5,7 +5,6 @@ use mathlib.Core.List.{List, [], _∷_, _++_, map}
 use mathlib.Core.Option.{Option, none, some}
 use Prim.Native.Nat.{ℕ, _+_, _-_, _*_, _≤_, _<_}
 use lib.ListN.{length, take, getD}
-use Rattle.morph.specs.declared.Kind.{Kind}
 use Rattle.morph.specs.Order.{Order, orderOf, backOf, aheadOf}
 use Rattle.morph.specs.Lists.{tabulate, In}
 use Rattle.morph.specs.Line.{outputAt, bestAt, filterLine, queue, lineCost, lineCosts}

@@ -1,12 +1,11 @@
 -- What the code of a queue finds and leaves, in the words of crate morph. A queue stands in `length vs` places, the values vs beside the positions ps, from `start` on.
 use mathlib.Core.Path.{_≡_}
-use mathlib.Core.Bool.{Bool, cond}
+use mathlib.Core.Bool.{cond}
 use mathlib.Core.List.{List}
 use Prim.Native.Nat.{ℕ, _+_, _-_, _≤_, _<_}
 use lib.Dec.{leb, eqb}
-use lib.ListN.{length, take, set}
+use lib.ListN.{length, take}
 use Rattle.morph.specs.declared.Kind.{Kind}
-use Rattle.morph.specs.Order.{Order}
 use Rattle.morph.specs.Line.{Entry}
 use Rattle.morph.specs.Ring.{wrap, entries}
 use Rattle.morph.specs.Step.{popped, roomed, stepped, stepCost}

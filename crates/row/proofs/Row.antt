@@ -1,30 +1,28 @@
 -- From one step of a row to the next. By which idea: the answer of step t is the front of the queue after it (`output-front`), and it goes where a pixel was read before.
 use mathlib.Core.Path.{_≡_, refl, sym, ap, _∙_}
-use mathlib.Core.Bool.{Bool, true, false, cond}
 use mathlib.Core.List.{List, [], _∷_, _++_, append-assoc, append-nil}
-use Prim.Native.Nat.{ℕ, zero, suc, _+_, _-_, _*_, _≤_, _<_}
+use Prim.Native.Nat.{ℕ, suc, _+_, _-_, _≤_, _<_}
 use native.Mathlib.Nat.{zero-sub, add-zero}
 use native.Mathlib.Numerals.{add-one}
 use native.Mathlib.Omega.{arith}
 use borrow.Author.Tests.{leb-true, leb-false}
 use lib.Dec.{leb}
-use lib.ListN.{length, take, drop, getD, set, length-append, length-take, length-drop, length-set, take-append-drop}
-use lib.Seq.{take-suc, drop-cons, set-at, getD-append-add, getD-take, getD-drop, take-all, drop-length}
+use lib.ListN.{length, take, drop, getD, set, length-take, length-set}
+use lib.Seq.{take-suc, drop-cons, set-at, getD-append-add, getD-drop, take-all, drop-length}
 use Rattle.morph.specs.declared.Kind.{Kind}
 use Rattle.morph.specs.Order.{Order, orderOf}
-use Rattle.morph.specs.Lists.{Each, In}
-use Rattle.morph.specs.Line.{Entry, filterLine, bestAt, queue, front, Queued, lineCost, lineCosts}
+use Rattle.morph.specs.Line.{filterLine, bestAt, queue, front, lineCost, lineCosts}
 use Rattle.morph.specs.Step.{stepped, stepCost, roomed}
 use Rattle.morph.specs.Ring.{wrap}
-use Rattle.morph.proofs.Lists.{split, each-in, each-getD, in-each}
-use Rattle.morph.proofs.Line.{queue-start, queue-length, queue-some, queue-sound, length-line, line-at, output-front, cost-read, cost-drain}
+use Rattle.morph.proofs.Lists.{split}
+use Rattle.morph.proofs.Line.{queue-start, queue-some, length-line, line-at, output-front, cost-drain}
 use Rattle.morph.proofs.Ring.{wrap-add}
-use Rattle.morph.proofs.Step.{step-read, step-drain, step-cost}
+use Rattle.morph.proofs.Step.{step-drain}
 use Rattle.sample.specs.Samples.{Samples}
 use Rattle.queue.specs.Queue.{listed, Roomed, goesOf}
 use Rattle.queue.specs.declared.Room.{Room}
 use Rattle.queue.proofs.Steps.{next-queue, next-cost}
-use Rattle.queue.proofs.Laws.{goes-few, listed-none, listed-length, listed-front, listed-ages, room-stored}
+use Rattle.queue.proofs.Laws.{listed-none, listed-length, listed-front, listed-ages, room-stored}
 use Rattle.row.specs.Row.{answered, Good, Read, Across, Drained}
 
 -- ---- the answers in their places

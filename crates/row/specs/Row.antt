@@ -1,12 +1,12 @@
 -- A row filtered in place: what stands in it and in its queue on the way, and at the end. Over a kind of samples K; a row's promise holds where its pixels are accepted ones.
 use mathlib.Core.Path.{_≡_}
-use mathlib.Core.Bool.{Bool, true, cond}
+use mathlib.Core.Bool.{true, cond}
 use mathlib.Core.List.{List, _++_}
 use Prim.Native.Nat.{ℕ, _+_, _-_, _*_, _≤_, _<_}
 use lib.Dec.{leb}
 use lib.ListN.{length, take, drop, set}
 use Rattle.morph.specs.declared.Kind.{Kind}
-use Rattle.morph.specs.Order.{Order, orderOf}
+use Rattle.morph.specs.Order.{orderOf}
 use Rattle.morph.specs.Lists.{Each}
 use Rattle.morph.specs.Line.{filterLine, queue, lineCosts}
 use Rattle.sample.specs.Samples.{Samples}

@@ -1,10 +1,9 @@
 -- The laws of a stage's own step: reading a row, draining, and the row that is due. By which idea: each column is a line over the across-results (`columnQueue`), and its
 -- front after step y + F is the stage's answer in row y (`stage-front`).
 use mathlib.Core.Path.{_≡_, refl, sym, ap, _∙_}
-use mathlib.Core.Bool.{true, cond}
-use mathlib.Core.List.{List, [], _∷_, map}
+use mathlib.Core.Bool.{true}
+use mathlib.Core.List.{List, []}
 use Prim.Native.Nat.{ℕ, zero, suc, _+_, _-_, _*_, _≤_, _<_, min}
-use native.Mathlib.Numerals.{add-one}
 use native.Mathlib.Omega.{arith}
 use borrow.Author.Tests.{lt-ltb}
 use lib.ListN.{length, getD}
@@ -12,20 +11,19 @@ use lib.Seq.{ext-getD}
 use Rattle.morph.specs.declared.Kind.{Kind}
 use Rattle.morph.specs.declared.Kind.the-variants.{Erosion, Dilation}
 use Rattle.morph.specs.Order.{Order, orderOf, backOf, aheadOf}
-use Rattle.morph.specs.Lists.{Each, In, tabulate, sumTo}
-use Rattle.morph.specs.Line.{Entry, filterLine, bestAt, queue, front, Queued, lineCost, lineCosts}
-use Rattle.morph.specs.Picture.{Picture, Wide, Stage as Filter, applyStage, across, column}
+use Rattle.morph.specs.Lists.{Each, tabulate, sumTo}
+use Rattle.morph.specs.Line.{filterLine, front, lineCost, lineCosts}
+use Rattle.morph.specs.Picture.{Picture, Stage as Filter, applyStage, across, column}
 use Rattle.morph.specs.Plan.{window, columnQueue, stageCost}
-use Rattle.morph.specs.Step.{stepped, stepCost, roomed}
-use Rattle.morph.proofs.Lists.{split, each-in, each-getD, each-map, each-weaken, each-tabulate, in-each, length-tabulate, getD-tabulate}
-use Rattle.morph.proofs.Line.{queue-sound, queue-some, cost-read, length-line, line-each}
-use Rattle.morph.proofs.Step.{step-read, step-drain, step-cost}
-use Rattle.morph.proofs.Picture.{stage-wide, stage-length, stage-each}
+use Rattle.morph.specs.Step.{stepCost, roomed}
+use Rattle.morph.proofs.Lists.{each-in, each-getD, each-map, in-each, length-tabulate, getD-tabulate}
+use Rattle.morph.proofs.Line.{queue-some, length-line, line-each}
+use Rattle.morph.proofs.Step.{step-drain}
+use Rattle.morph.proofs.Picture.{stage-wide, stage-length}
 use Rattle.morph.proofs.Plan.{stage-front, across-at, column-length, stage-cost-drain}
 use Rattle.sample.specs.Samples.{Samples}
 use Rattle.queue.proofs.Steps.{next-queue, next-cost}
-use Rattle.row.specs.Row.{Across}
-use Rattle.columns.specs.Columns.{Lent, columnAt, Moved, RecordsMoved, RowRead, reads, frontAt}
+use Rattle.columns.specs.Columns.{Lent, columnAt, RecordsMoved, RowRead, reads, frontAt}
 use Rattle.columns.proofs.Column.{front-column}
 use Rattle.plan.specs.declared.Stage.{Stage}
 use Rattle.plan.specs.Plan.{filterOf, sizeOf, belowOf}

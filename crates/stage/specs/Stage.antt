@@ -2,9 +2,9 @@
 use mathlib.Core.Path.{_≡_}
 use mathlib.Core.Bool.{true}
 use mathlib.Core.List.{List, []}
-use Prim.Native.Nat.{ℕ, _+_, _-_, _*_, _≤_, _<_, min}
+use Prim.Native.Nat.{ℕ, _+_, _-_, _≤_, _<_, min}
 use lib.ListN.{length, getD}
-use Rattle.morph.specs.Order.{Order, backOf, aheadOf}
+use Rattle.morph.specs.Order.{backOf, aheadOf}
 use Rattle.morph.specs.Lists.{Each}
 use Rattle.morph.specs.Picture.{Picture, Wide, applyStage}
 use Rattle.morph.specs.Plan.{columnQueue, stageCost}
@@ -12,7 +12,7 @@ use Rattle.sample.specs.Samples.{Samples}
 use Rattle.columns.specs.Columns.{Lent, RowRead, columnAt}
 use Rattle.row.specs.Row.{Across}
 use Rattle.plan.specs.declared.Stage.{Stage}
-use Rattle.plan.specs.Plan.{Small, filterOf, sizeOf, belowOf}
+use Rattle.plan.specs.Plan.{filterOf, sizeOf, belowOf}
 
 -- The memory lent: cells, a value and a position each, and column records, a start and a length each.
 pub record Memory (A : Type 0) : Type 0 where

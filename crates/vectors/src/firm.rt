@@ -1,19 +1,19 @@
 // The firmware's one-row filter, called as the bench calls it: cases 1 and 2, and each refusal, which leaves the output row as it was.
 
 fn row(name: &[u8], kind: u8, left: u8, right: u8, input: &[u8]) {
-    crate::text(b"one row, ");
-    crate::text(name);
-    crate::text(b": ");
+    show::text(b"one row, ");
+    show::text(name);
+    show::text(b": ");
     let mut out = [255u8; 8];
     let n = firmware::kelafshir_filter_row(kind, left, right, input, &mut out);
-    crate::byte(n);
-    crate::text(b", row");
+    show::byte(n);
+    show::text(b", row");
     show(out);
 }
 
 fn shown(v: u8) {
-    crate::text(b" ");
-    crate::byte(v);
+    show::text(b" ");
+    show::byte(v);
 }
 
 fn show(out: [u8; 8]) {
@@ -25,7 +25,7 @@ fn show(out: [u8; 8]) {
     shown(out[5]);
     shown(out[6]);
     shown(out[7]);
-    crate::text(b"\n");
+    show::text(b"\n");
 }
 
 pub fn rows() {

@@ -4,12 +4,12 @@ use line::grey::Line;
 use line::grey::ReadOut;
 
 fn start(name: &[u8], kind: u8, left: u8, right: u8, pixels: usize) {
-    crate::text(b"grey start, ");
-    crate::text(name);
-    crate::text(b": ");
+    show::text(b"grey start, ");
+    show::text(name);
+    show::text(b": ");
     let s = line::grey::start(kind, left, right, pixels);
-    crate::byte(s.number);
-    crate::text(b"\n");
+    show::byte(s.number);
+    show::text(b"\n");
 }
 
 pub fn starts() {
@@ -30,18 +30,18 @@ fn answer(a: Answer) {
             number,
             comparisons,
         } => {
-            crate::text(b"pixel ");
-            crate::number(number);
-            crate::text(b" is ");
-            crate::byte(value);
-            crate::text(b", comparisons ");
-            crate::number(comparisons);
+            show::text(b"pixel ");
+            show::number(number);
+            show::text(b" is ");
+            show::byte(value);
+            show::text(b", comparisons ");
+            show::number(comparisons);
         }
         Answer::NotYet { comparisons } => {
-            crate::not_yet(comparisons);
+            show::not_yet(comparisons);
         }
         Answer::Refused { number, position } => {
-            crate::refused(number, position);
+            show::refused(number, position);
         }
     }
 }
@@ -50,30 +50,30 @@ fn place(l: Line, place: usize) {
     let r = line::grey::read_out(l, place);
     match r {
         ReadOut::Found(e) => {
-            crate::text(b" ");
-            crate::byte(e.value);
-            crate::text(b"@");
-            crate::position(e.position);
+            show::text(b" ");
+            show::byte(e.value);
+            show::text(b"@");
+            show::position(e.position);
         }
         ReadOut::Refused(number) => {
-            crate::text(b" -");
-            crate::byte(number);
+            show::text(b" -");
+            show::byte(number);
         }
     }
 }
 
 fn places(l: Line) {
-    crate::text(b"; queue");
+    show::text(b"; queue");
     place(l, 0);
     place(l, 1);
     place(l, 2);
-    crate::text(b"\n");
+    show::text(b"\n");
 }
 
 fn read(l: Line, v: u8) -> Line {
-    crate::text(b"grey line, read ");
-    crate::byte(v);
-    crate::text(b": ");
+    show::text(b"grey line, read ");
+    show::byte(v);
+    show::text(b": ");
     let s = line::grey::read(l, v);
     let a = s.answer;
     answer(a);
@@ -83,7 +83,7 @@ fn read(l: Line, v: u8) -> Line {
 }
 
 fn drain(l: Line) -> Line {
-    crate::text(b"grey line, drain: ");
+    show::text(b"grey line, drain: ");
     let s = line::grey::drain(l);
     let a = s.answer;
     answer(a);

@@ -3,12 +3,12 @@ use line::rate::Answer;
 use line::rate::Line;
 
 fn start(name: &[u8], kind: u8, left: u8, right: u8, pixels: usize) {
-    crate::text(b"rate start, ");
-    crate::text(name);
-    crate::text(b": ");
+    show::text(b"rate start, ");
+    show::text(name);
+    show::text(b": ");
     let s = line::rate::start(kind, left, right, pixels);
-    crate::byte(s.number);
-    crate::text(b"\n");
+    show::byte(s.number);
+    show::text(b"\n");
 }
 
 pub fn starts() {
@@ -22,19 +22,6 @@ pub fn starts() {
     start(b"left 32 before no pixel", 0, 32, 0, 0);
 }
 
-fn hex(b: u8) {
-    io::print_hex(libc::STDOUT_FILENO, b as u64, 2);
-}
-
-pub fn float(x: f32) {
-    let mut bytes = [0u8; 4];
-    sample::rate::to_bytes(x, &mut bytes, 0);
-    hex(bytes[3]);
-    hex(bytes[2]);
-    hex(bytes[1]);
-    hex(bytes[0]);
-}
-
 fn answer(a: Answer) {
     match a {
         Answer::Pixel {
@@ -42,27 +29,27 @@ fn answer(a: Answer) {
             number,
             comparisons,
         } => {
-            crate::text(b"pixel ");
-            crate::number(number);
-            crate::text(b" is ");
-            float(value);
-            crate::text(b", comparisons ");
-            crate::number(comparisons);
+            show::text(b"pixel ");
+            show::number(number);
+            show::text(b" is ");
+            show::float(value);
+            show::text(b", comparisons ");
+            show::number(comparisons);
         }
         Answer::NotYet { comparisons } => {
-            crate::not_yet(comparisons);
+            show::not_yet(comparisons);
         }
         Answer::Refused { number, position } => {
-            crate::refused(number, position);
+            show::refused(number, position);
         }
     }
-    crate::text(b"\n");
+    show::text(b"\n");
 }
 
 fn read(l: Line, v: f32) -> Line {
-    crate::text(b"rate line, read ");
-    float(v);
-    crate::text(b": ");
+    show::text(b"rate line, read ");
+    show::float(v);
+    show::text(b": ");
     let s = line::rate::read(l, v);
     let a = s.answer;
     answer(a);
@@ -70,7 +57,7 @@ fn read(l: Line, v: f32) -> Line {
 }
 
 fn drain(l: Line) -> Line {
-    crate::text(b"rate line, drain: ");
+    show::text(b"rate line, drain: ");
     let s = line::rate::drain(l);
     let a = s.answer;
     answer(a);
@@ -82,12 +69,12 @@ pub fn case_12() {
     let s = line::rate::start(0, 1, 1, 3);
     let l0 = s.line;
     let l1 = read(l0, 2.5);
-    crate::text(b"with a not-a-number first\n");
+    show::text(b"with a not-a-number first\n");
     let l2 = read(l1, 0.0 / 0.0);
     let l3 = read(l2, -1.0);
     let l4 = read(l3, 0.5);
     drain(l4);
-    crate::text(b"alone\n");
+    show::text(b"alone\n");
     let m3 = read(l1, -1.0);
     let m4 = read(m3, 0.5);
     drain(m4);

@@ -5,9 +5,6 @@ use borrow.Author.Tests.{eq-eqb, ne-eqb, le-leb, lt-leb}
 use Rattle.queue.specs.Queue.{goesOf}
 use Rattle.queue.proofs.goes.Statement.{statement}
 use Rattle.queue.proofs.goes.Tie as tie
-use Rattle.queue.proofs.goes.Reads as reads
-use Rattle.queue.proofs.goes.Lts as lts
-use Rattle.queue.proofs.wide.Reads as wide-reads
 
 returns : tie.Need-returns
 unfolding goesOf

@@ -1,9 +1,7 @@
 -- `queue::previous` meets its contract: by the two cases of `wrap`.
-use mathlib.Core.Path.{_≡_, sym, ap, _∙_}
 use Prim.Native.Nat.{_+_, _-_}
 use native.Mathlib.Omega.{arith}
 use borrow.Author.Needs.{needs}
-use Rattle.morph.specs.Ring.{wrap}
 use Rattle.morph.proofs.Ring.{wrap-low, wrap-high}
 use Rattle.queue.proofs.previous.Statement.{statement}
 use Rattle.queue.proofs.previous.Tie as tie

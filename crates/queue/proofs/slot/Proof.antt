@@ -5,8 +5,6 @@ use borrow.Author.Needs.{needs}
 use Rattle.morph.proofs.Ring.{wrap-low, wrap-high}
 use Rattle.queue.proofs.slot.Statement.{statement}
 use Rattle.queue.proofs.slot.Tie as tie
-use Rattle.queue.proofs.slot.Reads as reads
-use Rattle.queue.proofs.slot.Lts as lts
 
 add-i : tie.Need-add-i
 add-i c = search needs

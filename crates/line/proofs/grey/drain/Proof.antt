@@ -6,11 +6,6 @@ use Rattle.line.proofs.Steps.{answers-refusal, answers-step}
 use borrow.Author.Needs.{needs}
 use Rattle.line.proofs.grey.drain.Statement.{statement}
 use Rattle.line.proofs.grey.drain.Tie as tie
-use Rattle.line.proofs.grey.drain.Reads as reads
-use Rattle.line.proofs.grey.drain.Lts as lts
-use Rattle.line.proofs.grey.drain_on.Reads as drain-on-reads
-use Rattle.line.proofs.grey.refusal.Reads as refusal-reads
-use Rattle.line.proofs.judge.drain.Reads as drain-reads
 
 drain-requires : tie.Need-drain-requires
 drain-requires c κs = search needs

@@ -5,12 +5,6 @@ use Rattle.line.proofs.Steps.{drain-accepts}
 use borrow.Author.Needs.{needs}
 use Rattle.line.proofs.grey.drain_on.Statement.{statement}
 use Rattle.line.proofs.grey.drain_on.Tie as tie
-use Rattle.line.proofs.grey.drain_on.Reads as reads
-use Rattle.line.proofs.grey.drain_on.Lts as lts
-use Rattle.line.proofs.grey.step_on.Reads as step-on-reads
-use Rattle.line.proofs.judge.window.Reads as window-reads
-use Rattle.queue.proofs.goes.Reads as goes-reads
-use Rattle.queue.proofs.slot.Reads as slot-reads
 
 window-requires : tie.Need-window-requires
 window-requires c κs = search needs

@@ -6,11 +6,6 @@ use Rattle.line.proofs.Steps.{answers-refusal, answers-step}
 use borrow.Author.Needs.{needs}
 use Rattle.line.proofs.grey.read.Statement.{statement}
 use Rattle.line.proofs.grey.read.Tie as tie
-use Rattle.line.proofs.grey.read.Reads as reads
-use Rattle.line.proofs.grey.read.Lts as lts
-use Rattle.line.proofs.grey.read_on.Reads as read-on-reads
-use Rattle.line.proofs.grey.refusal.Reads as refusal-reads
-use Rattle.line.proofs.judge.read.Reads as read-reads
 
 read-requires : tie.Need-read-requires
 read-requires c κs = search needs

@@ -5,10 +5,6 @@ use Rattle.line.specs.Steps.{onward, sayAt}
 use borrow.Author.Needs.{needs}
 use Rattle.line.proofs.grey.step_on.Statement.{statement}
 use Rattle.line.proofs.grey.step_on.Tie as tie
-use Rattle.line.proofs.grey.step_on.Reads as reads
-use Rattle.line.proofs.grey.step_on.Lts as lts
-use Rattle.line.proofs.judge.ahead.Reads as ahead-reads
-use Rattle.queue.proofs.grey.cell.Reads as cell-reads
 
 ahead-requires : tie.Need-ahead-requires
 ahead-requires c κs = search needs

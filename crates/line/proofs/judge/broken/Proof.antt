@@ -7,12 +7,6 @@ use Rattle.line.proofs.Numbers.{pixels-fit}
 use borrow.Author.Needs.{needs}
 use Rattle.line.proofs.judge.broken.Statement.{statement}
 use Rattle.line.proofs.judge.broken.Tie as tie
-use Rattle.line.proofs.judge.broken.Reads as reads
-use Rattle.line.proofs.judge.broken.Lts as lts
-use Rattle.line.proofs.judge.ahead.Reads as ahead-reads
-use Rattle.line.proofs.judge.extent_over.Reads as extent-over-reads
-use Rattle.line.proofs.judge.pixels_off.Reads as pixels-off-reads
-use Rattle.line.proofs.judge.window.Reads as window-reads
 
 extent-over-requires : tie.Need-extent-over-requires
 extent-over-requires c κs = search needs

@@ -7,10 +7,6 @@ use Rattle.line.proofs.Numbers.{sound-broken}
 use borrow.Author.Needs.{needs}
 use Rattle.line.proofs.judge.drain.Statement.{statement}
 use Rattle.line.proofs.judge.drain.Tie as tie
-use Rattle.line.proofs.judge.drain.Reads as reads
-use Rattle.line.proofs.judge.drain.Lts as lts
-use Rattle.line.proofs.judge.ahead.Reads as ahead-reads
-use Rattle.line.proofs.judge.broken.Reads as broken-reads
 
 broken-requires : tie.Need-broken-requires
 broken-requires c κs = search needs

@@ -3,8 +3,6 @@ use borrow.Author.Tests.{lt-ltb, le-ltb}
 use Rattle.line.specs.Numbers.{extentOver}
 use Rattle.line.proofs.judge.extent_over.Statement.{statement}
 use Rattle.line.proofs.judge.extent_over.Tie as tie
-use Rattle.line.proofs.judge.extent_over.Reads as reads
-use Rattle.line.proofs.judge.extent_over.Lts as lts
 
 returns : tie.Need-returns
 unfolding extentOver

@@ -1,11 +1,8 @@
 -- `kind_of` meets its contract, by the number.
-use mathlib.Core.Path.{refl}
 use Rattle.line.proofs.Numbers.{kind-dilation}
 use borrow.Author.Needs.{needs}
 use Rattle.line.proofs.judge.kind_of.Statement.{statement}
 use Rattle.line.proofs.judge.kind_of.Tie as tie
-use Rattle.line.proofs.judge.kind_of.Reads as reads
-use Rattle.line.proofs.judge.kind_of.Lts as lts
 
 returns : tie.Need-returns
 returns c = search needs

@@ -3,8 +3,6 @@ use borrow.Author.Tests.{eq-eqb, ne-eqb}
 use Rattle.line.specs.Numbers.{pixelsOff}
 use Rattle.line.proofs.judge.pixels_off.Statement.{statement}
 use Rattle.line.proofs.judge.pixels_off.Tie as tie
-use Rattle.line.proofs.judge.pixels_off.Reads as reads
-use Rattle.line.proofs.judge.pixels_off.Lts as lts
 
 returns : tie.Need-returns
 unfolding pixelsOff

@@ -3,8 +3,6 @@ use borrow.Author.Tests.{eq-eqb, ne-eqb}
 use Rattle.line.specs.Numbers.{placeOf}
 use Rattle.line.proofs.judge.place.Statement.{statement}
 use Rattle.line.proofs.judge.place.Tie as tie
-use Rattle.line.proofs.judge.place.Reads as reads
-use Rattle.line.proofs.judge.place.Lts as lts
 
 returns : tie.Need-returns
 unfolding placeOf

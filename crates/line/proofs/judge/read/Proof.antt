@@ -5,9 +5,6 @@ use Rattle.line.specs.Numbers.{readNumber}
 use borrow.Author.Needs.{needs}
 use Rattle.line.proofs.judge.read.Statement.{statement}
 use Rattle.line.proofs.judge.read.Tie as tie
-use Rattle.line.proofs.judge.read.Reads as reads
-use Rattle.line.proofs.judge.read.Lts as lts
-use Rattle.line.proofs.judge.broken.Reads as broken-reads
 
 broken-requires : tie.Need-broken-requires
 broken-requires c κs = search needs

@@ -5,9 +5,6 @@ use Rattle.line.specs.Numbers.{readOutNumber}
 use borrow.Author.Needs.{needs}
 use Rattle.line.proofs.judge.read_out.Statement.{statement}
 use Rattle.line.proofs.judge.read_out.Tie as tie
-use Rattle.line.proofs.judge.read_out.Reads as reads
-use Rattle.line.proofs.judge.read_out.Lts as lts
-use Rattle.line.proofs.judge.broken.Reads as broken-reads
 
 broken-requires : tie.Need-broken-requires
 broken-requires c κs = search needs

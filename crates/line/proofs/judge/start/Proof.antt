@@ -5,10 +5,6 @@ use Rattle.line.specs.Numbers.{startNumber}
 use borrow.Author.Needs.{needs}
 use Rattle.line.proofs.judge.start.Statement.{statement}
 use Rattle.line.proofs.judge.start.Tie as tie
-use Rattle.line.proofs.judge.start.Reads as reads
-use Rattle.line.proofs.judge.start.Lts as lts
-use Rattle.line.proofs.judge.extent_over.Reads as extent-over-reads
-use Rattle.line.proofs.judge.pixels_off.Reads as pixels-off-reads
 
 returns : tie.Need-returns
 unfolding startNumber

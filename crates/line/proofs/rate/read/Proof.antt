@@ -7,11 +7,6 @@ use Rattle.line.proofs.Steps.{good-number, taken-accepts, answers-refus
 use borrow.Author.Needs.{needs}
 use Rattle.line.proofs.rate.read.Statement.{statement}
 use Rattle.line.proofs.rate.read.Tie as tie
-use Rattle.line.proofs.rate.read.Reads as reads
-use Rattle.line.proofs.rate.read.Lts as lts
-use Rattle.line.proofs.rate.read_on.Reads as read-on-reads
-use Rattle.line.proofs.rate.refusal.Reads as refusal-reads
-use Rattle.line.proofs.judge.read.Reads as read-reads
 
 is-finite-requires : tie.Need-is-finite-requires
 is-finite-requires c κs = search needs

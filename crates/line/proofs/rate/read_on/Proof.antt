@@ -10,13 +10,6 @@ use Rattle.line.proofs.Steps.{read-accepts}
 use borrow.Author.Needs.{needs}
 use Rattle.line.proofs.rate.read_on.Statement.{statement}
 use Rattle.line.proofs.rate.read_on.Tie as tie
-use Rattle.line.proofs.rate.read_on.Reads as reads
-use Rattle.line.proofs.rate.read_on.Lts as lts
-use Rattle.line.proofs.rate.step_on.Reads as step-on-reads
-use Rattle.line.proofs.judge.window.Reads as window-reads
-use Rattle.queue.proofs.rate.room.Reads as room-reads
-use Rattle.queue.proofs.slot.Reads as slot-reads
-use Rattle.row.proofs.position.Reads as position-reads
 
 window-requires : tie.Need-window-requires
 window-requires c κs = search needs

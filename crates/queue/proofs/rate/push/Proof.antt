@@ -5,10 +5,6 @@ use Rattle.sample.specs.Samples.{rates}
 use Rattle.queue.proofs.Laws.{room-pushed}
 use Rattle.queue.proofs.rate.push.Statement.{statement}
 use Rattle.queue.proofs.rate.push.Tie as tie
-use Rattle.queue.proofs.rate.push.Reads as reads
-use Rattle.queue.proofs.rate.push.Lts as lts
-use Rattle.queue.proofs.rate.room.Reads as room-reads
-use Rattle.queue.proofs.slot.Reads as slot-reads
 
 slot-requires : tie.Need-slot-requires
 slot-requires c κs = search needs

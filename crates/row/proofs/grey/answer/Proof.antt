@@ -4,8 +4,6 @@ use borrow.Author.Tests.{le-leb, lt-leb}
 use Rattle.row.specs.Row.{answered}
 use Rattle.row.proofs.grey.answer.Statement.{statement}
 use Rattle.row.proofs.grey.answer.Tie as tie
-use Rattle.row.proofs.grey.answer.Reads as reads
-use Rattle.row.proofs.grey.answer.Lts as lts
 
 -- src/grey.rt:46:9
 slice-write-row : tie.Need-slice-write-row

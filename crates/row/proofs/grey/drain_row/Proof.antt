@@ -8,12 +8,6 @@ use Rattle.sample.specs.Samples.{greys}
 use Rattle.row.proofs.Row.{Draining, drain-first, drain-step, drain-last}
 use Rattle.row.proofs.grey.drain_row.Statement.{statement}
 use Rattle.row.proofs.grey.drain_row.Tie as tie
-use Rattle.row.proofs.grey.drain_row.Reads as reads
-use Rattle.row.proofs.grey.drain_row.Lts as lts
-use Rattle.row.proofs.grey.answer.Reads as answer-reads
-use Rattle.queue.proofs.grey.cell.Reads as cell-reads
-use Rattle.queue.proofs.goes.Reads as goes-reads
-use Rattle.queue.proofs.slot.Reads as slot-reads
 
 abbrev Inv-loop : tie.InvT-loop
 Inv-loop back ahead row₀ q window n end start₀ count₀ t₀ row start count t =

@@ -2,10 +2,6 @@
 use borrow.Author.Needs.{needs}
 use Rattle.row.proofs.grey.read_all.Statement.{statement}
 use Rattle.row.proofs.grey.read_all.Tie as tie
-use Rattle.row.proofs.grey.read_all.Reads as reads
-use Rattle.row.proofs.grey.read_all.Lts as lts
-use Rattle.row.proofs.grey.empty.Reads as empty-reads
-use Rattle.row.proofs.grey.read_row.Reads as read-row-reads
 
 empty-requires : tie.Need-empty-requires
 empty-requires c κs = search needs

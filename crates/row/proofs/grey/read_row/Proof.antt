@@ -3,7 +3,7 @@ use Prim.Native.Nat.{_≤_, _+_, _-_}
 use mathlib.Core.Path.{_≡_, refl, sym, ap, _∙_}
 use native.Mathlib.Omega.{arith}
 use borrow.Author.Needs.{needs}
-use lib.ListN.{length, getD}
+use lib.ListN.{length}
 use Rattle.morph.specs.Ring.{wrap}
 use Rattle.morph.proofs.Ring.{wrap-low}
 use Rattle.sample.specs.Samples.{greys}
@@ -11,13 +11,6 @@ use Rattle.row.specs.Row.{Read}
 use Rattle.row.proofs.Row.{read-first, read-next, behind-next}
 use Rattle.row.proofs.grey.read_row.Statement.{statement}
 use Rattle.row.proofs.grey.read_row.Tie as tie
-use Rattle.row.proofs.grey.read_row.Reads as reads
-use Rattle.row.proofs.grey.read_row.Lts as lts
-use Rattle.row.proofs.grey.answer.Reads as answer-reads
-use Rattle.row.proofs.position.Reads as position-reads
-use Rattle.queue.proofs.grey.cell.Reads as cell-reads
-use Rattle.queue.proofs.grey.room.Reads as room-reads
-use Rattle.queue.proofs.next.Reads as next-reads
 
 abbrev Inv-loop : tie.InvT-loop
 Inv-loop kind back ahead row₀ window n q₀ start₀ count₀ behind₀ comparisons₀ t₀ row q start count behind comparisons t =

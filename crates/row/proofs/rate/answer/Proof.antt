@@ -4,8 +4,6 @@ use borrow.Author.Tests.{le-leb, lt-leb}
 use Rattle.row.specs.Row.{answered}
 use Rattle.row.proofs.rate.answer.Statement.{statement}
 use Rattle.row.proofs.rate.answer.Tie as tie
-use Rattle.row.proofs.rate.answer.Reads as reads
-use Rattle.row.proofs.rate.answer.Lts as lts
 
 mul-row : tie.Need-mul-row
 mul-row c = search needs

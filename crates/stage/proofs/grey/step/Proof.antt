@@ -5,12 +5,6 @@ use Rattle.stage.proofs.Stage.{done-step, early-step, due-step, fronts-
 use borrow.Author.Needs.{needs}
 use Rattle.stage.proofs.grey.step.Statement.{statement}
 use Rattle.stage.proofs.grey.step.Tie as tie
-use Rattle.stage.proofs.grey.step.Reads as reads
-use Rattle.stage.proofs.grey.step.Lts as lts
-use Rattle.columns.proofs.grey.fronts.Reads as fronts-reads
-use Rattle.plan.proofs.below.Reads as below-reads
-use Rattle.plan.proofs.size_of.Reads as size-of-reads
-use Rattle.stage.proofs.grey.move_on.Reads as move-on-reads
 
 below-requires : tie.Need-below-requires
 below-requires c κs = search needs

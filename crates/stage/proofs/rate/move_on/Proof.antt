@@ -4,11 +4,6 @@ use Rattle.stage.proofs.Stage.{lent-as, taken-moved, drained-moved}
 use borrow.Author.Needs.{needs}
 use Rattle.stage.proofs.rate.move_on.Statement.{statement}
 use Rattle.stage.proofs.rate.move_on.Tie as tie
-use Rattle.stage.proofs.rate.move_on.Reads as reads
-use Rattle.stage.proofs.rate.move_on.Lts as lts
-use Rattle.columns.proofs.drain.Reads as drain-reads
-use Rattle.plan.proofs.size_of.Reads as size-of-reads
-use Rattle.stage.proofs.rate.take_row.Reads as take-row-reads
 
 take-row-requires : tie.Need-take-row-requires
 take-row-requires c κs = search needs

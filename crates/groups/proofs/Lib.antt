@@ -1,0 +1,4 @@
+pub mod Groups
+pub mod Frames
+pub mod Bytes
+pub mod Memory

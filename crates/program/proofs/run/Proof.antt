@@ -1,0 +1,69 @@
+-- The groups one after another.
+use borrow.Author.Needs.{needs}
+use Rattle.program.proofs.run.Statement.{statement}
+use Rattle.program.proofs.run.Tie as tie
+
+read-plan-requires : tie.Need-read-plan-requires
+read-plan-requires c κs = search needs
+
+put-end-requires : tie.Need-put-end-requires
+put-end-requires c κs = search needs
+
+returns : tie.Need-returns
+returns c = search needs
+
+slice-aggregate-read-full : tie.Need-slice-aggregate-read-full
+slice-aggregate-read-full c = search needs
+
+read-full-requires : tie.Need-read-full-requires
+read-full-requires c κs = search needs
+
+judge-image-requires : tie.Need-judge-image-requires
+judge-image-requires c κs = search needs
+
+put-end-requires-2 : tie.Need-put-end-requires-2
+put-end-requires-2 c κs = search needs
+
+returns-2 : tie.Need-returns-2
+returns-2 c = search needs
+
+opening-requires : tie.Need-opening-requires
+opening-requires c κs = search needs
+
+slice-aggregate-write-all : tie.Need-slice-aggregate-write-all
+slice-aggregate-write-all c = search needs
+
+write-all-requires : tie.Need-write-all-requires
+write-all-requires c κs = search needs
+
+run-rows-requires : tie.Need-run-rows-requires
+run-rows-requires c κs = search needs
+
+finish-requires : tie.Need-finish-requires
+finish-requires c κs = search needs
+
+returns-3 : tie.Need-returns-3
+returns-3 c = search needs
+
+returns-4 : tie.Need-returns-4
+returns-4 c = search needs
+
+pub run-spec : {M : Type 1} → statement M
+run-spec =
+    tie.close
+    (tie.spec
+    read-plan-requires
+    put-end-requires
+    returns
+    slice-aggregate-read-full
+    read-full-requires
+    judge-image-requires
+    put-end-requires-2
+    returns-2
+    opening-requires
+    slice-aggregate-write-all
+    write-all-requires
+    run-rows-requires
+    finish-requires
+    returns-3
+    returns-4)

@@ -1,0 +1,45 @@
+// What the test programs write: words, numbers, floats by their bytes, and what a step that gave no value says.
+use libc::STDOUT_FILENO;
+
+pub fn text(t: &[u8]) {
+    io::write_all(STDOUT_FILENO, t);
+}
+
+pub fn number(n: usize) {
+    io::print_decimal(STDOUT_FILENO, n as u64);
+}
+
+pub fn byte(n: u8) {
+    io::print_decimal(STDOUT_FILENO, n as u64);
+}
+
+pub fn position(n: u16) {
+    io::print_decimal(STDOUT_FILENO, n as u64);
+}
+
+fn hex(b: u8) {
+    io::print_hex(STDOUT_FILENO, b as u64, 2);
+}
+
+// A float by its four bytes, high byte first.
+pub fn float(x: f32) {
+    let mut bytes = [0u8; 4];
+    sample::rate::to_bytes(x, &mut bytes, 0);
+    hex(bytes[3]);
+    hex(bytes[2]);
+    hex(bytes[1]);
+    hex(bytes[0]);
+}
+
+// What a step that gave no value says.
+pub fn not_yet(comparisons: usize) {
+    text(b"not yet, comparisons ");
+    number(comparisons);
+}
+
+pub fn refused(no: u8, place: usize) {
+    text(b"refused ");
+    byte(no);
+    text(b" at ");
+    number(place);
+}

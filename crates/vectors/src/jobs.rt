@@ -1,0 +1,28 @@
+// Whole jobs: each file j000, j001, .. of data/ goes through the program. A line with its name, the answer's bytes, and a line end.
+use libc::STDOUT_FILENO;
+
+fn digit(n: u8) -> u8 {
+    48 + n % 10
+}
+
+// Runs job n, and says whether there is one.
+fn one(n: u8) -> bool {
+    let name = [b'j', digit(n / 100), digit(n / 10), digit(n)];
+    let from = os::open_read(&name);
+    if from < 0 {
+        return false;
+    }
+    show::text(&name);
+    show::text(b"\n");
+    program::run(from, STDOUT_FILENO);
+    show::text(b"\n");
+    libc::close(from);
+    true
+}
+
+pub fn all() {
+    let mut n: u8 = 0;
+    while n < 255 && one(n) {
+        n += 1;
+    }
+}

@@ -1,0 +1,163 @@
+#!/usr/bin/env python3
+"""Writes the job vectors of crates/vectors: the jobs into data/, and the answers that definition.py gives them behind
+the line 'jobs' of stdout. The crate's program runs the same jobs, and the gate compares.
+
+    python3 tests/vectors.py [--list]
+
+--list writes nothing and prints each job's file, the number that ends its answer, and its name.
+"""
+import math
+import pathlib
+import struct
+import sys
+
+from cases import cases, job
+from definition import DILATION, EROSION, answer
+
+CRATE = pathlib.Path(__file__).resolve().parent.parent / 'crates' / 'vectors'
+
+ONE = [(DILATION, 1, 0, 0, 0)]
+# one dilation and one erosion, each with one row of look-ahead
+AHEAD = [(DILATION, 1, 1, 1, 0), (EROSION, 0, 1, 0, 1)]
+SMALLEST, LARGEST = struct.unpack('<2f', struct.pack('<2I', 1, 0x7f7fffff))
+GREYS = [bytes([7, 2, 9]), bytes([8, 0, 6]), bytes([3, 5, 1])]
+RATES = [[2.5, -1.0, 0.5], [-1.0, 0.5, 2.5], [0.25, 4.0, -3.0]]
+
+
+def floats(values):
+    return struct.pack('<%df' % len(values), *values)
+
+
+def float_job(plan, rows):
+    """The job of these stages over these rows of floats."""
+    head = struct.pack('<BHH', 1, len(rows[0]), len(rows))
+    return bytes([len(plan)]) + b''.join(map(bytes, plan)) + head + b''.join(map(floats, rows))
+
+
+def changed(given, at, *values):
+    """The job with other bytes from a place on."""
+    return given[:at] + bytes(values) + given[at + len(values):]
+
+
+def plans():
+    """1, 2 and 3, at each place and in their order."""
+    sixteen = job([(DILATION, 1, 1, 1, 1)] * 16, GREYS)
+    for count in 0, 17, 255:
+        yield 'count %d' % count, changed(sixteen, 0, count)
+    yield 'count 0 and nothing after', b'\0'
+    yield 'count 17 before a kind', changed(sixteen, 0, 17, 9)
+    for stage in 0, 7, 15:
+        at = 1 + 5 * stage
+        for kind in 2, 255:
+            yield 'kind %d of stage %d' % (kind, stage), changed(sixteen, at, kind)
+        for place, side in enumerate(('left', 'right', 'up', 'down'), 1):
+            yield '%s 32 of stage %d' % (side, stage), changed(sixteen, at + place, 32)
+    yield 'left 255', changed(sixteen, 2, 255)
+    yield 'kind before extent of one stage', changed(sixteen, 1, 2, 32)
+    yield 'extent of stage 0 before kind of stage 1', changed(changed(sixteen, 5, 32), 6, 2)
+    yield 'kind of stage 0 before extent of stage 1', changed(changed(sixteen, 1, 2), 7, 32)
+    yield 'extent before sample kind', changed(changed(sixteen, 5, 32), 81, 2)
+    yield '16 stages over 3 rows', sixteen
+
+
+def heads():
+    """5, 4 and 15, at each place and in their order."""
+    given = job(ONE, GREYS)
+    for sample in 2, 255:
+        yield 'sample kind %d' % sample, changed(given, 6, sample)
+    yield 'width 0', changed(given, 7, 0, 0)
+    yield 'width 4,097', changed(given, 7, 1, 16)
+    yield 'width 65,535', changed(given, 7, 255, 255)
+    yield 'no row', changed(given, 9, 0, 0)
+    yield 'sample kind before width', changed(given, 6, 2, 0, 0)
+    yield 'width before cells', changed(job([(EROSION, 0, 0, 31, 31)], GREYS), 7, 1, 16)
+    yield 'row count before cells', changed(job([(EROSION, 0, 0, 31, 31)], GREYS), 7, 0, 16, 0, 0)
+    yield 'cells over in the first stage', job([(EROSION, 0, 0, 1, 0)], [bytes(4096)])
+    yield 'cells over in the last stage', job([(EROSION, 0, 0, 0, 0)] * 16, [bytes(257)])
+    yield '4,096 cells of 16 stages', job([(EROSION, 0, 0, 0, 0)] * 16, [bytes(256)])
+    yield 'cells over, and no row byte read', job([(EROSION, 0, 0, 31, 31)], [bytes(66)])[:11]
+    yield 'cells over, floats', float_job([(DILATION, 0, 0, 31, 31)], [[0.0] * 66])
+
+
+def cuts():
+    """13 at each group and inside each, before its other checks."""
+    given = job(AHEAD, GREYS)
+    for end, name in ((0, 'the count'), (1, 'the stages'), (3, 'the first stage'), (6, 'the second stage'), (10, 'the stages, a byte less'),
+                      (11, 'the head'), (12, 'the head, a byte read'), (15, 'the head, a byte less'), (16, 'row 0'), (18, 'row 0, a byte less'),
+                      (19, 'row 1'), (20, 'row 1, a byte read'), (22, 'row 2'), (24, 'row 2, a byte less')):
+        yield 'cut at ' + name, given[:end]
+    rates = float_job(AHEAD, RATES)
+    for end, name in (16, 'row 0'), (17, 'a float'), (27, 'row 0, a byte less'), (40, 'row 2'), (51, 'row 2, a byte less'):
+        yield 'floats cut at ' + name, rates[:end]
+    for name, whole in ('grey', job(ONE, GREYS)), ('floats', float_job(ONE, RATES)):
+        size = (len(whole) - 11) // 3
+        yield name + ', a row written, cut at row 1', whole[:11 + size]
+        yield name + ', two rows written, cut in row 2', whole[:-1]
+    yield 'cut stages before their kind', changed(given, 1, 9)[:10]
+    yield 'cut head before its sample kind', changed(given, 11, 9)[:15]
+    yield 'cut row before its pixels', float_job(ONE, [[math.nan, 0.0, 0.0]])[:22]
+
+
+def ends():
+    """14, and 0, with and without a look-ahead."""
+    for name, given in (('grey', job(AHEAD, GREYS)), ('floats', float_job(AHEAD, RATES)), ('no look-ahead', job(ONE, GREYS))):
+        yield name + ', whole', given
+        yield name + ', a byte after', given + b'\0'
+        yield name + ', 40 bytes after', given + bytes(range(40))
+
+
+def pixels():
+    """8 at each place, and the floats that are accepted."""
+    for name, value in ('not-a-number', math.nan), ('infinity', math.inf), ('negative infinity', -math.inf):
+        yield name + ' in row 0, column 0', float_job(AHEAD, [[value, 0.0, 1.0]] + RATES[1:])
+        yield name + ' in row 1, column 1', float_job(AHEAD, [RATES[0], [0.0, value, 1.0], RATES[2]])
+        yield name + ' in the last row and column', float_job(AHEAD, RATES[:2] + [[0.0, 1.0, value]])
+    yield 'signalling not-a-number', changed(float_job(ONE, RATES), 11, 1, 0, 0x80, 0x7f)
+    yield 'case 12: a not-a-number, then the right row', float_job(ONE, [RATES[0], [-1.0, math.nan, math.nan], RATES[1]])
+    yield 'case 12: the right row alone', float_job(ONE, RATES[:2])
+    yield 'a pixel before the bytes after', float_job(ONE, [[math.inf, 0.0, 0.0]]) + b'\0'
+    for kind, name in (EROSION, 'eroded'), (DILATION, 'dilated'):
+        plan = [(kind, 1, 0, 0, 0)]
+        yield 'both zeros, ' + name, float_job(plan, [[0.0, -0.0, 0.0, -0.0], [-0.0, -0.0, -0.0, -0.0]])
+        yield 'smallest and largest, ' + name, float_job(plan, [[SMALLEST, -SMALLEST, LARGEST, -LARGEST, 0.0, -0.0, 1.0]])
+
+
+def sizes():
+    """Widths 1 and 4,096, one row and many."""
+    ramp = [value * 37 % 251 for value in range(4096)]
+    yield 'width 1, one row', job(AHEAD, [b'\7'])
+    yield 'width 1, one row of floats', float_job(AHEAD, [[-0.5]])
+    yield 'width 4,096', job([(DILATION, 3, 2, 0, 0)], [bytes(ramp), bytes(reversed(ramp))])
+    yield 'width 4,096, floats', float_job([(EROSION, 31, 31, 0, 0)], [[value / 8 - 10 for value in ramp]])
+    yield 'all extents 31, fewer rows than the look-ahead', job([(DILATION, 31, 31, 31, 31)] * 4, [bytes(ramp[at:at + 10]) for at in range(5)])
+
+
+def jobs():
+    for name, given, expected in cases():
+        assert answer(given) == expected, name
+        yield name, given
+    for group in plans, heads, cuts, ends, pixels, sizes:
+        yield from group()
+
+
+def main():
+    is_list = sys.argv[1:] == ['--list']
+    files = [('j%03d' % at, name, given, answer(given)) for at, (name, given) in enumerate(jobs())]
+    if is_list:
+        for file, name, _, told in files:
+            print(file, '%2d' % told[-1], name)
+        return
+    data = CRATE / 'data'
+    data.mkdir(exist_ok=True)
+    for old in data.iterdir():
+        old.unlink()
+    for file, _, given, _ in files:
+        (data / file).write_bytes(given)
+    stdout = CRATE / 'stdout'
+    lines = stdout.read_bytes().partition(b'jobs\n')[0]
+    stdout.write_bytes(lines + b'jobs\n' + b''.join(file.encode() + b'\n' + told + b'\n' for file, _, _, told in files))
+    print('%d jobs' % len(files))
+
+
+if __name__ == '__main__':
+    main()
