@@ -8,7 +8,6 @@ ghost use Rattle.morph.specs.Step.{stepCost};
 ghost use Rattle.sample.specs.Samples.{greys};
 ghost use Rattle.columns.specs.Columns.{Lent, Moved, RowRead, EntryAt, only, reads, columnAt, frontAt};
 use crate::narrow;
-use crate::wide;
 use morph::Kind;
 use queue::grey::Entry;
 
@@ -29,8 +28,8 @@ fn read_column(
         × (r ≡ stepCost (greys .passes kind (e .value)) (columnAt greys places (now (values .entry)) (now (positions .entry)) (now (starts .entry)) (now (lengths .entry)) x)) × (r ≤ 63) ⌝ }
 {
     let hi = lo + places;
-    let start = wide(starts[x]);
-    let count = wide(lengths[x]);
+    let start = morph::wide(starts[x]);
+    let count = morph::wide(lengths[x]);
     let ends = queue::grey::push(
         kind,
         &mut values[lo..hi],
@@ -79,7 +78,7 @@ fn front_of<'a>(values: &'a [u8], positions: &'a [u16], starts: &[u8], lo: usize
     requires { ⌜ (x < length (now starts)) × (lo + getD (now starts) x 0 < length (now values)) × (length (now positions) ≡ length (now values)) ⌝ }
     ensures { λ r. ⌜ (r .value ≡ getD (now (values .entry)) (lo + getD (now (starts .entry)) x 0) 0) × (r .position ≡ getD (now (positions .entry)) (lo + getD (now (starts .entry)) x 0) 0) ⌝ }
 {
-    let at = lo + wide(starts[x]);
+    let at = lo + morph::wide(starts[x]);
     queue::grey::cell(values, positions, at)
 }
 
@@ -116,7 +115,7 @@ pub fn entry<'a>(
     requires { ⌜ (places ≤ 63) × (x < length (now starts)) × (length (now values) ≡ length (now starts) * places) × (length (now positions) ≡ length (now values)) × (getD (now starts) x 0 < places) × (k < places) ⌝ }
     ensures { λ r. ⌜ EntryAt greys places (now (values .entry)) (now (positions .entry)) (now (starts .entry)) x k (r .value) (r .position) ⌝ }
 {
-    let start = wide(starts[x]);
+    let start = morph::wide(starts[x]);
     let at = x * places + queue::slot(start, k, places);
     queue::grey::cell(values, positions, at)
 }

@@ -14,13 +14,6 @@ ghost use Rattle.columns.specs.Columns.{Lent, RecordsMoved, only, soundR
 pub mod grey; // grey.rt: columns of grey bytes
 pub mod rate; // rate.rt: columns of floats
 
-// A record's number to reckon with.
-fn wide(x: u8) -> usize
-    ensures { λ r. ⌜ (r ≡ x) × (r < 256) ⌝ }
-{
-    x as usize
-}
-
 // A number as a record keeps it.
 fn narrow(x: usize) -> u8
     requires { ⌜ x < 256 ⌝ }
@@ -44,8 +37,8 @@ fn drain_column(
         × RecordsMoved rates places (length (now (starts .entry))) (only x (roomed places t)) (now (positions .entry)) (now (starts .entry)) (now (lengths .entry)) (now (starts .exit)) (now (lengths .exit)) ⌝ }
 {
     let hi = lo + places;
-    let start = wide(starts[x]);
-    let count = wide(lengths[x]);
+    let start = morph::wide(starts[x]);
+    let count = morph::wide(lengths[x]);
     let gone = queue::goes(&positions[lo..hi], start, count, places, t);
     starts[x] = narrow(queue::slot(start, gone, places));
     lengths[x] = narrow(count - gone);

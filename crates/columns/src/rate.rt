@@ -9,7 +9,6 @@ ghost use Rattle.morph.specs.Step.{stepCost};
 ghost use Rattle.sample.specs.Samples.{rates};
 ghost use Rattle.columns.specs.Columns.{Lent, Moved, RowRead, EntryAt, only, reads, columnAt, frontAt};
 use crate::narrow;
-use crate::wide;
 use morph::Kind;
 use queue::rate::Entry;
 
@@ -30,8 +29,8 @@ fn read_column(
         × (r ≡ stepCost (rates .passes kind (e .value)) (columnAt rates places (now (values .entry)) (now (positions .entry)) (now (starts .entry)) (now (lengths .entry)) x)) × (r ≤ 63) ⌝ }
 {
     let hi = lo + places;
-    let start = wide(starts[x]);
-    let count = wide(lengths[x]);
+    let start = morph::wide(starts[x]);
+    let count = morph::wide(lengths[x]);
     let ends = queue::rate::push(
         kind,
         &mut values[lo..hi],
@@ -86,7 +85,7 @@ fn front_of<'a>(
     requires { ⌜ (x < length (now starts)) × (lo + getD (now starts) x 0 < length (now values)) × (length (now positions) ≡ length (now values)) ⌝ }
     ensures { λ r. ⌜ (r .value ≡ getD (now (values .entry)) (lo + getD (now (starts .entry)) x 0) nan) × (r .position ≡ getD (now (positions .entry)) (lo + getD (now (starts .entry)) x 0) 0) ⌝ }
 {
-    let at = lo + wide(starts[x]);
+    let at = lo + morph::wide(starts[x]);
     queue::rate::cell(values, positions, at)
 }
 
@@ -123,7 +122,7 @@ pub fn entry<'a>(
     requires { ⌜ (places ≤ 63) × (x < length (now starts)) × (length (now values) ≡ length (now starts) * places) × (length (now positions) ≡ length (now values)) × (getD (now starts) x 0 < places) × (k < places) ⌝ }
     ensures { λ r. ⌜ EntryAt rates places (now (values .entry)) (now (positions .entry)) (now (starts .entry)) x k (r .value) (r .position) ⌝ }
 {
-    let start = wide(starts[x]);
+    let start = morph::wide(starts[x]);
     let at = x * places + queue::slot(start, k, places);
     queue::rate::cell(values, positions, at)
 }

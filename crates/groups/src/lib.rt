@@ -44,17 +44,11 @@ pub fn stages_asked(bytes: &[u8]) -> usize
     if bytes.len() < 1 {
         return 0;
     }
-    let count = wide(bytes[0]);
+    let count = morph::wide(bytes[0]);
     if plan::judge_count(count) != 0 {
         return 0;
     }
     count * 5
-}
-
-fn wide(x: u8) -> usize
-    ensures { λ r. ⌜ r ≡ x ⌝ }
-{
-    x as usize
 }
 
 fn refused_head(number: u8) -> Head

@@ -19,20 +19,13 @@ pub fn kind_of(kind: u8) -> Kind
     }
 }
 
-// An extent as a number to reckon with.
-fn wide(x: u8) -> usize
-    ensures { λ r. ⌜ (r ≡ x) × (r < 256) ⌝ }
-{
-    x as usize
-}
-
 // How far the window reaches back.
 pub fn back(kind: Kind, left: u8, right: u8) -> usize
     ensures { λ r. ⌜ (r ≡ backOf kind left right) × (r < 256) ⌝ }
 {
     match kind {
-        Kind::Erosion => wide(left),
-        Kind::Dilation => wide(right),
+        Kind::Erosion => morph::wide(left),
+        Kind::Dilation => morph::wide(right),
     }
 }
 
@@ -41,8 +34,8 @@ pub fn ahead(kind: Kind, left: u8, right: u8) -> usize
     ensures { λ r. ⌜ (r ≡ aheadOf kind left right) × (r < 256) ⌝ }
 {
     match kind {
-        Kind::Erosion => wide(right),
-        Kind::Dilation => wide(left),
+        Kind::Erosion => morph::wide(right),
+        Kind::Dilation => morph::wide(left),
     }
 }
 

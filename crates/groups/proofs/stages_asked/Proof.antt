@@ -24,7 +24,7 @@ judge-count-requires c κs = search needs
 
 returns-2 : tie.Need-returns-2
 returns-2 c =
-    let n = c .before .judge-count .ensures ∙ ap countNumber (c .before .before .wide .ensures) in
+    let n = c .before .judge-count .ensures ∙ ap countNumber (c .before .before .wide .ensures .0) in
     (asked-refused (now (c .before .before .before .before .before .before .args .bytes)) (c .before .before .before .before .if1 .left) (λ z. c .if2 .taken (n ∙ z)), omega arith)
 
 mul-result : tie.Need-mul-result
@@ -34,9 +34,9 @@ mul-result c =
 
 returns-3 : tie.Need-returns-3
 returns-3 c =
-    let n = c .before .judge-count .ensures ∙ ap countNumber (c .before .before .wide .ensures) in
+    let n = c .before .judge-count .ensures ∙ ap countNumber (c .before .before .wide .ensures .0) in
     let k = counted (c .before .before .wide .result) (sym (c .before .judge-count .ensures) ∙ c .if2 .left) in
-    (ap (λ (m : ℕ). m * 5) (c .before .before .wide .ensures) ∙ asked-stages (now (c .before .before .before .before .before .before .args .bytes)) (c .before .before .before .before .if1 .left) (sym n ∙ c .if2 .left), omega arith)
+    (ap (λ (m : ℕ). m * 5) (c .before .before .wide .ensures .0) ∙ asked-stages (now (c .before .before .before .before .before .before .args .bytes)) (c .before .before .before .before .if1 .left) (sym n ∙ c .if2 .left), omega arith)
 
 pub stages-asked-spec : {M : Type 1} → statement M
 stages-asked-spec =
