@@ -196,6 +196,7 @@ static void time_methods(const char *name)
             exit(1);
         }
     printf("sum\t%s\t%zu\t%lu\n", name, 2 * task.extent + 1, first);
+    printf("count\t%s\t%zu\t%.2f\n", name, 2 * task.extent + 1, (double)comparisons / (double)(task.width * task.rows));
     for (int m = method_count(); m-- > 0;)
         printf("time\t%s\t%zu\t%s\t%.2f\n", name, 2 * task.extent + 1, methods[m].name, median(times[m], runs));
     fflush(stdout);

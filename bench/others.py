@@ -9,6 +9,7 @@ answer's sum is not the one in RESULTS. What would take over LIMIT seconds is le
 """
 import ctypes
 import ctypes.util
+import functools
 import inspect
 import os
 import pathlib
@@ -132,10 +133,17 @@ def libvips(raw, sample, width, rows):
     return run
 
 
+@functools.cache
+def is_imagemagick(program):
+    """Other programs go by the name of convert too."""
+    told = subprocess.run([program, '-version'], stdout=subprocess.PIPE, stderr=subprocess.DEVNULL)
+    return told.returncode == 0 and b'ImageMagick' in told.stdout
+
+
 def imagemagick(raw, sample, width, rows):
     """A program: what it takes to read and write the picture is timed by itself and taken off."""
     program = shutil.which('magick') or shutil.which('convert')
-    if sample != 'grey' or program is None:
+    if sample != 'grey' or program is None or not is_imagemagick(program):
         raise Absent
 
     def seconds_of(*words):

@@ -7,7 +7,7 @@ METHODS = ('proved', 'queue in C', 'van Herk in C', 'OpenCV', 'SciPy', 'scikit-i
 
 def read(paths):
     lines = [line.rstrip('\n').split('\t') for path in paths for line in open(path)]
-    return {kind: [line[1:] for line in lines if line[0] == kind] for kind in ('time', 'latency', 'memory')}
+    return {kind: [line[1:] for line in lines if line[0] == kind] for kind in ('time', 'count', 'latency', 'memory')}
 
 
 def groups(lines, fields):
@@ -30,17 +30,19 @@ def ratio(above, below):
     return '%.2f' % (numbers[0] / numbers[1]) if all(numbers) else '-'
 
 
-def show_times(lines):
+def show_times(lines, counts):
     for (sample, picture, size), entries in groups(lines, 3).items():
+        compared = dict(groups(counts, 3)[sample, picture, size])
         cost = {(method, window): value for window, method, value in entries}
         windows = list(dict.fromkeys(window for window, _, _ in entries))
         present = [method for method in METHODS if any((method, window) in cost for window in windows)]
         at = lambda method, window: cost.get((method, window), '-')
         print('%s, %s, %s: nanoseconds per pixel' % (sample, picture, size))
-        rows = [[window] + [at(method, window) for method in present] + [ratio(at('proved', window), at('queue in C', window))]
+        rows = [[window] + [at(method, window) for method in present] + [ratio(at('proved', window), at('queue in C', window)), compared[window]]
                 for window in windows]
         growth = [ratio(at(method, windows[-1]), at(method, windows[0])) for method in present]
-        show(['window', *present, 'proved/queue'], rows + [['largest/smallest', *growth, '']])
+        more = ratio(compared[windows[-1]], compared[windows[0]])
+        show(['window', *present, 'proved/queue', 'comparisons'], rows + [['largest/smallest', *growth, '', more]])
 
 
 def show_latencies(lines):
@@ -57,7 +59,7 @@ def show_memory(lines):
 
 if __name__ == '__main__':
     found = read(sys.argv[1:])
-    show_times(found['time'])
+    show_times(found['time'], found['count'])
     if any(line[-1].endswith('*') for line in found['time']):
         print('* its answer is not the largest value of the window at every pixel\n')
     show_latencies(found['latency'])

@@ -6,11 +6,8 @@ ghost use Prim.Native.Nat.{_≤_};
 ghost use Rattle.plan.specs.Plan.{Small, cellsOf};
 use plan::Stage;
 
-pub mod grey; // grey.rt: plans over grey bytes
-pub mod rate; // rate.rt: plans over floats
-
 // The cells of one stage.
-fn cells_of(stage: Stage, width: usize) -> usize
+pub fn cells_of(stage: Stage, width: usize) -> usize
     requires { ⌜ Small stage × (width ≤ 4096) ⌝ }
     ensures { λ r. ⌜ r ≡ cellsOf width stage ⌝ }
 {

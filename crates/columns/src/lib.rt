@@ -11,11 +11,8 @@ ghost use Rattle.morph.specs.Step.{roomed};
 ghost use Rattle.sample.specs.Samples.{greys, rates};
 ghost use Rattle.columns.specs.Columns.{Lent, RecordsMoved, only, soundRecords};
 
-pub mod grey; // grey.rt: columns of grey bytes
-pub mod rate; // rate.rt: columns of floats
-
 // A number as a record keeps it.
-fn narrow(x: usize) -> u8
+pub fn narrow(x: usize) -> u8
     requires { ⌜ x < 256 ⌝ }
     ensures { λ r. ⌜ r ≡ x ⌝ }
 {

@@ -14,8 +14,8 @@ use Rattle.morph.specs.Line.{filterLine}
 use Rattle.morph.specs.Lists.{Each}
 use Rattle.morph.proofs.Lists.{split}
 use Rattle.sample.specs.Samples.{greys}
-use Rattle.line.specs.Numbers.{kindOf, startNumber, Sound}
-use Rattle.line.proofs.Numbers.{start-zero}
+use Rattle.line_judge.specs.Numbers.{kindOf, startNumber, Sound}
+use Rattle.line_judge.proofs.Numbers.{start-zero}
 use Rattle.firmware.specs.Row.{rowNumber, FiltersRow}
 
 pub accepted : {n m : ℕ} → n ≡ m → n ≤ 0 → m ≡ 0

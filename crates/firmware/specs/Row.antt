@@ -9,7 +9,7 @@ use lib.ListN.{length}
 use Rattle.morph.specs.Order.{orderOf, backOf, aheadOf}
 use Rattle.morph.specs.Grey.{grey}
 use Rattle.morph.specs.Line.{filterLine}
-use Rattle.line.specs.Numbers.{kindOf, startNumber}
+use Rattle.line_judge.specs.Numbers.{kindOf, startNumber}
 
 -- "One-row filter: 2, 3, 4, 7, the input row being a line of N pixels. .. 4 judges the first row and 7 the second against it."
 -- So the numbers of a line's start come first, and then 7: "two rows differ in length".

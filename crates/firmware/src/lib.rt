@@ -8,7 +8,7 @@ ghost use Rattle.firmware.specs.Row.{rowNumber, FiltersRow};
 fn judge(kind: u8, left: u8, right: u8, pixels: usize, places: usize) -> u8
     ensures { λ r. ⌜ r ≡ rowNumber kind left right pixels places ⌝ }
 {
-    let number = line::judge::start(kind, left, right, pixels);
+    let number = line_judge::start(kind, left, right, pixels);
     if number != 0 {
         return number;
     }
@@ -33,10 +33,10 @@ pub extern "C" fn kelafshir_filter_row(
     if 0 < number {
         return number;
     }
-    let which = line::judge::kind_of(kind);
-    let back = line::judge::back(which, left, right);
-    let ahead = line::judge::ahead(which, left, right);
+    let which = line_judge::kind_of(kind);
+    let back = line_judge::back(which, left, right);
+    let ahead = line_judge::ahead(which, left, right);
     sample::grey::copy(input, output);
-    row::grey::across(which, back, ahead, output);
+    row_grey::across(which, back, ahead, output);
     0
 }

@@ -12,10 +12,10 @@ use Rattle.plan.specs.declared.Plan.{Plan}
 use Rattle.plan.specs.Numbers.{firstOf}
 use Rattle.plan.specs.Plan.{countNumber}
 use Rattle.plan.proofs.Numbers.{first-zero, first-one}
-use Rattle.job.specs.declared.Head.{Head}
-use Rattle.job.specs.Layout.{widthFrom}
-use Rattle.job.specs.Job.{missing, headNumber, headAnswered}
-use Rattle.job.proofs.Sections.{skip, found, head-number, head-there}
+use Rattle.job_read.specs.declared.Head.{Head}
+use Rattle.job_read.specs.Layout.{widthFrom}
+use Rattle.job_read.specs.Job.{missing, headNumber, headAnswered}
+use Rattle.job_read.proofs.Sections.{skip, found, head-number, head-there}
 use Rattle.groups.specs.Groups.{groupNumber, cellsNumber, imageNumber, stagesAsked}
 
 -- ---- the count and the stages

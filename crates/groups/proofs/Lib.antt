@@ -1,4 +1,2 @@
 pub mod Groups
-pub mod Frames
-pub mod Bytes
 pub mod Memory

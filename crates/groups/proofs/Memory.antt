@@ -11,10 +11,10 @@ use Rattle.plan.specs.declared.Stage.{Stage}
 use Rattle.plan.specs.declared.Plan.{Plan}
 use Rattle.plan.specs.Plan.{used, total, cellsOf, cellsNeeded, recordsNeeded, recordNumber}
 use Rattle.plan.proofs.Numbers.{first-zero, first-skip, first-one, given-zero}
-use Rattle.job.specs.Layout.{widthFrom, rowsFrom}
-use Rattle.job.specs.Job.{headNumber}
+use Rattle.job_read.specs.Layout.{widthFrom, rowsFrom}
+use Rattle.job_read.specs.Job.{headNumber}
 use Rattle.plan.specs.Numbers.{sampleNumber, sizeNumber}
-use Rattle.picture.specs.Numbers.{memoryNumber, startNumber}
+use Rattle.picture_state.specs.Numbers.{memoryNumber, startNumber}
 use Rattle.groups.specs.Groups.{groupNumber, cellsNumber, imageNumber}
 
 records-cells : (width : ℕ) (stages : List Stage) → length stages * width ≤ total (cellsOf width) stages

@@ -8,9 +8,9 @@ use lib.ListN.{getD}
 use Rattle.plan.specs.declared.Plan.{Plan}
 use Rattle.plan.specs.Numbers.{given, firstOf}
 use Rattle.plan.specs.Plan.{countNumber, cellsNeeded}
-use Rattle.job.specs.Layout.{widthFrom}
-use Rattle.job.specs.Job.{missing, headNumber}
-use Rattle.picture.specs.Step.{Said, row, notYet, refused}
+use Rattle.job_read.specs.Layout.{widthFrom}
+use Rattle.job_read.specs.Job.{missing, headNumber}
+use Rattle.picture_state.specs.Step.{Said, row, notYet, refused}
 use Rattle.groups.specs.declared.Next.{Next}
 use Rattle.groups.specs.declared.Next.the-variants.{Write, Wait, End}
 

@@ -1,19 +1,15 @@
-// The program without its descriptors: what each group of a job says, the step of a row, and the bytes that are written. Nothing here reads or writes.
+// The program without its descriptors: what each group of a job says, what a step has the program do, and the bytes of head and end. Nothing here reads or writes.
 // The groups are the count, all stages, the image head, and each row.
 
 ghost use mathlib.Core.Path.{_≡_};
 ghost use mathlib.Core.List.{[], _∷_};
 ghost use Prim.Native.Nat.{_≤_};
-ghost use Rattle.job.specs.Job.{headAnswered};
-ghost use Rattle.picture.specs.Step.{saidOf};
+ghost use Rattle.job_read.specs.Job.{headAnswered};
+ghost use Rattle.picture_state.specs.Step.{saidOf};
 ghost use Rattle.groups.specs.Groups.{groupNumber, tailNumber, imageNumber, stagesAsked, nextOf};
 use job::Head;
 use picture::Answer;
 use plan::Plan;
-
-pub mod floats; // floats.rt: a row's bytes and its floats
-pub mod grey; // grey.rt: a grey row's step
-pub mod rate; // rate.rt: a step on a row of floats
 
 // ---- what is judged
 

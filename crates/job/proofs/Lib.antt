@@ -1,4 +1,1 @@
-pub mod Viewing
-pub mod Sections
-pub mod Writing
 pub mod RoundTrip

@@ -21,16 +21,16 @@ use Rattle.plan.specs.Plan.{unused, planOf, used, countNumber, kindNumber, exte
 use Rattle.plan.proofs.Numbers.{first-one, first-skip, first-zero, all-zero, given-zero}
 use Rattle.plan.proofs.Laws.{used-plan, count-accepted, count-zero}
 use Rattle.plan.proofs.Named.{judged-count, judged-reading}
-use Rattle.job.specs.declared.Job.{Job}
-use Rattle.job.specs.declared.JobRead.{JobRead}
-use Rattle.job.specs.Layout.{kindByte, stageBytes, stagesBytes, planBytes, headBytes, encode, rowBytes, headAt, rowsAt, widthFrom, rowsFrom, jobFrom, Valid, IsJob}
-use Rattle.job.specs.Job.{planSectionNumber, headNumber, headSectionNumber, rowsNumber, jobNumber, jobRead}
-use Rattle.job.specs.View.{rowAt, thereTo, viewNumber}
-use Rattle.job.specs.declared.Written.{Written}
-use Rattle.job.specs.declared.Written.the-variants.{Bytes}
-use Rattle.job.specs.Write.{writeNumber, answerOf, Wrote}
-use Rattle.job.proofs.Sections.{plan-there, section-stages, head-there, head-size, head-section-there, section-head, rows-there, rows-exact, job-there, job-rows, job-accepted}
-use Rattle.job.proofs.Writing.{length-stages, length-encode, write-fine}
+use Rattle.job_read.specs.declared.Job.{Job}
+use Rattle.job_read.specs.declared.JobRead.{JobRead}
+use Rattle.job_read.specs.Layout.{kindByte, stageBytes, stagesBytes, planBytes, headBytes, encode, rowBytes, headAt, rowsAt, widthFrom, rowsFrom, jobFrom, Valid, IsJob}
+use Rattle.job_read.specs.Job.{planSectionNumber, headNumber, headSectionNumber, rowsNumber, jobNumber, jobRead}
+use Rattle.job_view.specs.View.{rowAt, thereTo, viewNumber}
+use Rattle.job_write.specs.declared.Written.{Written}
+use Rattle.job_write.specs.declared.Written.the-variants.{Bytes}
+use Rattle.job_write.specs.Write.{writeNumber, answerOf, Wrote}
+use Rattle.job_read.proofs.Sections.{plan-there, section-stages, head-there, head-size, head-section-there, section-head, rows-there, rows-exact, job-there, job-rows, job-accepted}
+use Rattle.job_write.proofs.Writing.{length-stages, length-encode, write-fine}
 
 -- ---- a stage at another place
 

@@ -1,4 +1,2 @@
-pub mod Numbers
-pub mod Steps
 pub mod Unique
 pub mod Runs

@@ -22,11 +22,11 @@ use Rattle.sample.specs.Samples.{Samples, rates}
 use Rattle.sample.specs.Rate.{accepted}
 use Rattle.sample.proofs.Floats.{accepted-plus}
 use Rattle.queue.proofs.Laws.{listed-none}
-use Rattle.line.specs.Numbers.{kindOf}
-use Rattle.line.specs.Steps.{State, Said, pixel, notYet, refused, sayAt, firstState, Start, Broken, ReadNumber, DrainNumber, Queue, LeftBy, saidOver, Accepts}
+use Rattle.line_judge.specs.Numbers.{kindOf}
+use Rattle.line_judge.specs.Steps.{State, Said, pixel, notYet, refused, sayAt, firstState, Start, Broken, ReadNumber, DrainNumber, Queue, LeftBy, saidOver, Accepts}
 use Rattle.line.specs.Runs.{Run, started, offered, drained, offer-refused, drain-refused, pixelOf, comparisonsOf, pixelsOf, together, order, back, ahead, window, taken, saidAt, Ran}
-use Rattle.line.proofs.Numbers.{sound-broken, broken-sound, start-zero, read-zero, sound-read, sound-drain}
-use Rattle.line.proofs.Steps.{SoundState}
+use Rattle.line_judge.proofs.Numbers.{sound-broken, broken-sound, start-zero, read-zero, sound-read, sound-drain}
+use Rattle.line_judge.proofs.Steps.{SoundState}
 
 -- ---- lists
 

@@ -16,21 +16,21 @@ use Rattle.morph.specs.Lists.{Each}
 use Rattle.morph.specs.Line.{positioned, standing, queue}
 use Rattle.morph.proofs.Lists.{split}
 use Rattle.sample.specs.Samples.{Samples}
-use Rattle.line.specs.Numbers.{startNumber, readNumber, drainNumber}
-use Rattle.line.specs.Steps.{State, Said, pixel, notYet, refused, Shown, entry, notShown, Start, Broken, ReadNumber, DrainNumber, O, L, LeftBy, Accepts, Answers, Reads, Drains, shownAt, Same}
-use Rattle.line.specs.Grey as grey
-use Rattle.line.specs.Rate as rate
-use Rattle.line.specs.declared.grey.Line.{Line}
-use Rattle.line.specs.declared.grey.Answer.{Answer}
-use Rattle.line.specs.declared.grey.Answer.the-variants.{Pixel, NotYet, Refused}
-use Rattle.line.specs.declared.rate.Line.{Line as RateLine}
-use Rattle.line.specs.declared.rate.Answer.{Answer as RateAnswer}
-use Rattle.line.specs.declared.rate.Answer.the-variants.{Pixel as RatePixel, NotYet as RateNotYet, Refused as RateRefused}
-use Rattle.line.specs.declared.grey.ReadOut.{ReadOut}
-use Rattle.line.specs.declared.grey.ReadOut.the-variants.{Found, Refused as NotFound}
-use Rattle.line.specs.declared.rate.ReadOut.{ReadOut as RateReadOut}
-use Rattle.line.specs.declared.rate.ReadOut.the-variants.{Found as RateFound, Refused as RateNotFound}
-use Rattle.line.proofs.Numbers.{read-zero}
+use Rattle.line_judge.specs.Numbers.{startNumber, readNumber, drainNumber}
+use Rattle.line_judge.specs.Steps.{State, Said, pixel, notYet, refused, Shown, entry, notShown, Start, Broken, ReadNumber, DrainNumber, O, L, LeftBy, Accepts, Answers, Reads, Drains, shownAt, Same}
+use Rattle.line_grey.specs.Grey as grey
+use Rattle.line_rate.specs.Rate as rate
+use Rattle.line_grey.specs.declared.Line.{Line}
+use Rattle.line_grey.specs.declared.Answer.{Answer}
+use Rattle.line_grey.specs.declared.Answer.the-variants.{Pixel, NotYet, Refused}
+use Rattle.line_rate.specs.declared.Line.{Line as RateLine}
+use Rattle.line_rate.specs.declared.Answer.{Answer as RateAnswer}
+use Rattle.line_rate.specs.declared.Answer.the-variants.{Pixel as RatePixel, NotYet as RateNotYet, Refused as RateRefused}
+use Rattle.line_grey.specs.declared.ReadOut.{ReadOut}
+use Rattle.line_grey.specs.declared.ReadOut.the-variants.{Found, Refused as NotFound}
+use Rattle.line_rate.specs.declared.ReadOut.{ReadOut as RateReadOut}
+use Rattle.line_rate.specs.declared.ReadOut.the-variants.{Found as RateFound, Refused as RateNotFound}
+use Rattle.line_judge.proofs.Numbers.{read-zero}
 
 each-set : {A : Type 0} (P : A → Type 0) (l : List A) (i : ℕ) (a : A) → Each P l → P a → Each P (set l i a)
 each-set P [] i a h p = tt

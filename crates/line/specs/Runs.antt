@@ -9,8 +9,8 @@ use Rattle.morph.specs.Order.{Order, orderOf, backOf, aheadOf}
 use Rattle.morph.specs.Lists.{tabulate, In}
 use Rattle.morph.specs.Line.{outputAt, bestAt, filterLine, queue, lineCost, lineCosts}
 use Rattle.sample.specs.Samples.{Samples}
-use Rattle.line.specs.Numbers.{kindOf, windowOf}
-use Rattle.line.specs.Steps.{State, Said, pixel, notYet, refused, sayAt, Start, ReadNumber, DrainNumber, Queue, Reads, Drains}
+use Rattle.line_judge.specs.Numbers.{kindOf, windowOf}
+use Rattle.line_judge.specs.Steps.{State, Said, pixel, notYet, refused, sayAt, Start, ReadNumber, DrainNumber, Queue, Reads, Drains}
 
 -- A run over the pixels `raw` as they are offered: an accepted start; then, in any order that is accepted, the pixel that is next, and drains; and calls that are refused,
 -- of any pixel, in between. `said` are the answers of the accepted steps, the first first.

@@ -3,5 +3,4 @@
 // No call asks anything of its caller: what it cannot do it refuses, with a number, and hands the line back as it was given.
 
 pub mod grey; // grey.rt: lines of grey bytes
-pub mod judge; // judge.rt: which calls are refused, on plain numbers
 pub mod rate; // rate.rt: lines of floats

@@ -20,13 +20,13 @@ use Rattle.plan.specs.Plan.{used, stagesOf, planAhead}
 use Rattle.plan.proofs.Named.{look-ahead-plan}
 use Rattle.stage.specs.Stage.{Memory, Whole}
 use Rattle.chain.specs.Run.{Holds}
-use Rattle.picture.specs.declared.State.{State}
-use Rattle.picture.specs.declared.Answer.{Answer}
+use Rattle.picture_state.specs.declared.State.{State}
+use Rattle.picture_state.specs.declared.Answer.{Answer}
 use Rattle.plan.specs.Numbers.{given}
 use Rattle.plan.proofs.Numbers.{first-zero}
-use Rattle.picture.specs.Numbers.{offerNumber, rowNumber}
-use Rattle.picture.proofs.Numbers.{offer-accepted, drain-accepted}
-use Rattle.picture.specs.Step.{Said, row, notYet, saidOf, nextState, Advanced}
+use Rattle.picture_state.specs.Numbers.{offerNumber, rowNumber}
+use Rattle.picture_state.proofs.Numbers.{offer-accepted, drain-accepted}
+use Rattle.picture_state.specs.Step.{Said, row, notYet, saidOf, nextState, Advanced}
 use Rattle.picture.specs.Runs.{comparisonsOf, cameWith, sumOf, taken, Run, begun, offered, drained, row-refused, drain-refused, Ran}
 
 map-snoc : {A B : Type 0} (f : A → B) (l : List A) (a : A) → map f (l ++ (a ∷ [])) ≡ map f l ++ (f a ∷ [])

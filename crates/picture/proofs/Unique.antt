@@ -14,11 +14,11 @@ use Rattle.sample.specs.Samples.{Samples}
 use Rattle.plan.specs.Plan.{used, cellsNeeded, recordsNeeded, planAhead}
 use Rattle.stage.specs.Stage.{Memory, Whole}
 use Rattle.chain.specs.Run.{behind, Holds}
-use Rattle.picture.specs.declared.State.{State}
-use Rattle.picture.specs.declared.Answer.{Answer}
-use Rattle.picture.specs.declared.Answer.the-variants.{Row, NotYet, Refused}
-use Rattle.picture.specs.Numbers.{rowNumber, drainJudged}
-use Rattle.picture.specs.Step.{saidOf, saidAt, Advanced, Unchanged, RowStep, DrainStep}
+use Rattle.picture_state.specs.declared.State.{State}
+use Rattle.picture_state.specs.declared.Answer.{Answer}
+use Rattle.picture_state.specs.declared.Answer.the-variants.{Row, NotYet, Refused}
+use Rattle.picture_state.specs.Numbers.{rowNumber, drainJudged}
+use Rattle.picture_state.specs.Step.{saidOf, saidAt, Advanced, Unchanged, RowStep, DrainStep}
 
 -- what an answer says tells the answer
 pub answer-same : (a b : Answer) → saidOf a ≡ saidOf b → a ≡ b

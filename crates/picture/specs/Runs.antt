@@ -11,10 +11,10 @@ use Rattle.sample.specs.Samples.{Samples}
 use Rattle.plan.specs.Plan.{used, stagesOf}
 use Rattle.stage.specs.Stage.{Memory}
 use Rattle.chain.specs.Run.{Holds}
-use Rattle.picture.specs.declared.State.{State}
-use Rattle.picture.specs.declared.Answer.{Answer}
-use Rattle.picture.specs.Numbers.{rowNumber, drainJudged}
-use Rattle.picture.specs.Step.{Said, row, notYet, refused, saidOf, RowStep, DrainStep}
+use Rattle.picture_state.specs.declared.State.{State}
+use Rattle.picture_state.specs.declared.Answer.{Answer}
+use Rattle.picture_state.specs.Numbers.{rowNumber, drainJudged}
+use Rattle.picture_state.specs.Step.{Said, row, notYet, refused, saidOf, RowStep, DrainStep}
 
 -- the comparisons that an answer tells, and the row that came with it
 abbrev pub comparisonsOf : Said → ℕ

@@ -12,8 +12,9 @@ use Rattle.morph.proofs.Lists.{length-tabulate, tabulate-snoc}
 use Rattle.plan.specs.declared.Stage.{Stage}
 use Rattle.plan.specs.declared.Plan.{Plan}
 use Rattle.plan.specs.declared.Reading.{Reading}
-use Rattle.plan.specs.Plan.{unused, planOf, used, added, addedAll, total, answered, countNumber, stageFrom, stagesFrom, stagesNumber, planNumber, planRead, sequenceStages, alternatingStages}
-use Rattle.plan.specs.Numbers.{firstOf}
+use Rattle.plan.specs.declared.Need.{Need}
+use Rattle.plan.specs.Plan.{unused, planOf, used, added, addedAll, total, answered, cellsNeeded, recordsNeeded, planAhead, countNumber, recordNumber, noNeeds, needsNumber, needsOf, stageFrom, stagesFrom, stagesNumber, planNumber, planRead, sequenceStages, alternatingStages}
+use Rattle.plan.specs.Numbers.{firstOf, sizeNumber}
 use Rattle.plan.proofs.Numbers.{first-one, first-skip, first-found, first-zero}
 
 -- ---- a stage more
@@ -113,3 +114,24 @@ module _ (count : ℕ) (bytes : List ℕ) {n q : ℕ} (w : n ≡ count) (e : q �
 
 pub mul-most : (a b c d : ℕ) → a ≤ c → b ≤ d → a * b ≤ c * d
 mul-most a b c d h k = let p = mul-le-mul-right b h in let q = mul-le-mul-left c k in omega arith
+
+-- ---- what to lend
+
+module _ (plan : Plan) (width : ℕ) {p : ℕ} (e : p ≡ recordNumber plan) where
+  pub needs-plan : {r : Need} → (p ≡ 0 → ⊥) → r ≡ noNeeds p → r ≡ needsOf plan width
+  unfolding needsOf needsNumber
+  needs-plan h f =
+      let q : p ≡ needsNumber plan width = e ∙ sym (first-found (recordNumber plan) (sizeNumber width 1 ∷ []) (λ z. h (e ∙ z))) in
+      f ∙ (let g = ne-eqb p 0 h in cc)
+
+  pub needs-width : {q : ℕ} {r : Need} → p ≡ 0 → q ≡ sizeNumber width 1 → (q ≡ 0 → ⊥) → r ≡ noNeeds q → r ≡ needsOf plan width
+  unfolding needsOf needsNumber
+  needs-width {q} z s h f =
+      let n : q ≡ needsNumber plan width = s ∙ sym (first-skip (recordNumber plan) (sizeNumber width 1 ∷ []) (sym e ∙ z) ∙ first-one (sizeNumber width 1)) in
+      f ∙ (let g = ne-eqb q 0 h in cc)
+
+  pub needs-all : {q c n a : ℕ} → p ≡ 0 → q ≡ sizeNumber width 1 → q ≡ 0 → c ≡ cellsNeeded plan width → n ≡ recordsNeeded plan width → a ≡ planAhead plan → record { number = 0; cells = c; records = n; ahead = a } ≡ needsOf plan width
+  unfolding needsOf needsNumber
+  needs-all {q} z s h f g k =
+      let n : needsNumber plan width ≡ 0 = first-skip (recordNumber plan) (sizeNumber width 1 ∷ []) (sym e ∙ z) ∙ first-one (sizeNumber width 1) ∙ sym s ∙ h in
+      let t = eq-eqb (needsNumber plan width) 0 n in cc

@@ -12,7 +12,8 @@ use Rattle.morph.specs.Picture.{Stage as Filter, stageOf}
 use Rattle.plan.specs.declared.Stage.{Stage}
 use Rattle.plan.specs.declared.Plan.{Plan}
 use Rattle.plan.specs.declared.Reading.{Reading}
-use Rattle.plan.specs.Numbers.{given, firstOf}
+use Rattle.plan.specs.declared.Need.{Need}
+use Rattle.plan.specs.Numbers.{given, firstOf, sizeNumber}
 
 -- ---- the records
 
@@ -110,6 +111,20 @@ recordStagesNumber plan = firstOf (tabulate (plan .count) (λ i. recordStageNumb
 
 unfoldable pub recordNumber : Plan → ℕ
 recordNumber plan = firstOf (countNumber (plan .count) ∷ recordStagesNumber plan ∷ [])
+
+-- ---- what to lend
+
+-- of a plan record and a width, in the order of a start: 1, or stage by stage 3; then 4, for the width alone: the row count that stands there is one that is taken
+unfoldable pub needsNumber : Plan → ℕ → ℕ
+needsNumber plan width = firstOf (recordNumber plan ∷ sizeNumber width 1 ∷ [])
+
+abbrev pub noNeeds : ℕ → Need
+noNeeds number = record { number = number; cells = 0; records = 0; ahead = 0 }
+
+-- the answer: the number, and where it is 0 what the plan needs
+unfoldable pub needsOf : Plan → ℕ → Need
+needsOf plan width =
+    cond (eqb (needsNumber plan width) 0) (record { number = 0; cells = cellsNeeded plan width; records = recordsNeeded plan width; ahead = planAhead plan }) (noNeeds (needsNumber plan width))
 
 -- ---- a plan from numbers
 

@@ -3,7 +3,7 @@ ghost use mathlib.Core.Path.{_≡_};
 ghost use mathlib.Core.List.{[]};
 ghost use Prim.Native.Nat.{_+_, _≤_, _<_};
 ghost use Rattle.morph.specs.Order.{backOf, aheadOf};
-ghost use Rattle.plan.specs.Plan.{planOf, added, addedAll, sequenceStages, sizeOf, belowOf, cellsNeeded, recordsNeeded, planAhead, countNumber, kindFrom, extentNumber, orderNumber, recordNumber, stageFrom, stageNumber, stagesFrom, stagesNumber, planRead, answered, pairStages, openingStages, closingStages, withExtents, alternatingStages};
+ghost use Rattle.plan.specs.Plan.{planOf, added, addedAll, sequenceStages, sizeOf, belowOf, cellsNeeded, recordsNeeded, planAhead, countNumber, kindFrom, extentNumber, orderNumber, recordNumber, noNeeds, needsOf, stageFrom, stageNumber, stagesFrom, stagesNumber, planRead, answered, pairStages, openingStages, closingStages, withExtents, alternatingStages};
 use morph::Kind;
 use morph::wide;
 
@@ -225,6 +225,47 @@ pub fn judge(plan: Plan) -> u8
         i += 1;
     }
     0
+}
+
+// ---- what to lend
+
+// What a plan needs over a picture of a width: 0, the cells, the records and the look-ahead, or a refusal's number and zeros.
+pub struct Need {
+    pub number: u8,
+    pub cells: usize,
+    pub records: usize,
+    pub ahead: usize,
+}
+
+fn no_needs(number: u8) -> Need
+    ensures { λ r. ⌜ r ≡ noNeeds number ⌝ }
+{
+    Need {
+        number: number,
+        cells: 0,
+        records: 0,
+        ahead: 0,
+    }
+}
+
+// Refused 1, or stage by stage 3; then 4, which is the width's.
+pub fn needs(plan: Plan, width: usize) -> Need
+    ensures { λ r. ⌜ r ≡ needsOf plan width ⌝ }
+{
+    let number = judge(plan);
+    if number != 0 {
+        return no_needs(number);
+    }
+    let number = judge_size(width, 1);
+    if number != 0 {
+        return no_needs(number);
+    }
+    Need {
+        number: 0,
+        cells: cells(plan, width),
+        records: records(plan, width),
+        ahead: look_ahead(plan),
+    }
 }
 
 // ---- reading

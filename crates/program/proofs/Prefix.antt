@@ -10,8 +10,8 @@ use lib.ListN.{length, take, drop, length-append, length-take, length-drop}
 use lib.Seq.{length-take-le}
 use Rattle.morph.proofs.Lists.{split}
 use Rattle.plan.specs.declared.Reading.{Reading}
-use Rattle.job.specs.Job.{planSectionNumber, planSection}
-use Rattle.job.proofs.Sections.{plan-read, section-number}
+use Rattle.job_read.specs.Job.{planSectionNumber, planSection}
+use Rattle.job_read.proofs.Sections.{plan-read, section-number}
 
 pub section-few : (bytes : List ℕ) {section : Reading} → section ≡ planSection bytes → section .plan .count ≤ 16
 unfolding planSection

@@ -29,7 +29,7 @@ fn read_one(
             state: state,
         };
     }
-    let stepped = groups::grey::step(state, &row[..], frame, values, positions, starts, lengths);
+    let stepped = frames::grey::step(state, &row[..], frame, values, positions, starts, lengths);
     let answer = stepped.answer;
     let course = crate::put(to, groups::next_of(answer), &frame[..]);
     let next = stepped.state;
@@ -51,7 +51,7 @@ fn drain_one(
 ) -> Turn
     requires { ⌜ 0 < length (now frame) ⌝ }
 {
-    let stepped = groups::grey::drain(state, frame, values, positions, starts, lengths);
+    let stepped = frames::grey::drain(state, frame, values, positions, starts, lengths);
     let answer = stepped.answer;
     let course = crate::put(to, groups::next_of(answer), &frame[..]);
     let next = stepped.state;

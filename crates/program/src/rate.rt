@@ -14,7 +14,7 @@ fn put(to: i32, next: Next, out: &[f32], frame: &mut [u8]) -> Course
     requires { ⌜ length (now frame) ≡ 1 + length (now out) * 4 ⌝ }
 {
     if let Next::Write = next {
-        groups::floats::give_out(out, frame);
+        frames::floats::give_out(out, frame);
         return crate::put(to, next, &frame[..]);
     }
     crate::put(to, next, &frame[..])
@@ -44,7 +44,7 @@ fn read_one(
             state: state,
         };
     }
-    let stepped = groups::rate::step(
+    let stepped = frames::rate::step(
         state,
         &bytes[..],
         row,

@@ -8,9 +8,6 @@ ghost use lib.ListN.{length, getD};
 ghost use Rattle.morph.specs.Ring.{wrap};
 ghost use Rattle.queue.specs.Queue.{goesOf};
 
-pub mod grey; // grey.rt: queues of grey bytes
-pub mod rate; // rate.rt: queues of floats
-
 // How many entries a new value leaves unpassed, and the place behind them.
 pub struct Kept {
     pub count: usize,

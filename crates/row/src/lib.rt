@@ -5,9 +5,6 @@
 ghost use mathlib.Core.Path.{_≡_};
 ghost use Prim.Native.Nat.{_<_};
 
-pub mod grey; // grey.rt: rows of grey bytes
-pub mod rate; // rate.rt: rows of floats
-
 // A step as a position.
 pub fn position(t: usize) -> u16
     requires { ⌜ t < 65536 ⌝ }

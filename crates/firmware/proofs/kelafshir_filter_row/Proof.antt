@@ -1,7 +1,7 @@
 -- `kelafshir_filter_row` meets its contract: the row is copied, and the copy filtered in place.
 use mathlib.Core.Path.{refl, sym}
 use native.Mathlib.Omega.{arith}
-use Rattle.line.proofs.Numbers.{back-fits, ahead-fits}
+use Rattle.line_judge.proofs.Numbers.{back-fits, ahead-fits}
 use Rattle.firmware.proofs.Laws.{accepted, row-zero, filtered}
 use borrow.Author.Needs.{needs}
 use Rattle.firmware.proofs.kelafshir_filter_row.Statement.{statement}

@@ -5,8 +5,8 @@ use Prim.Native.Nat.{ℕ}
 use native.Mathlib.Omega.{arith}
 use borrow.Author.Tests.{lt-ltb, le-ltb}
 use Rattle.plan.specs.Plan.{cellsNeeded}
-use Rattle.job.specs.Job.{headNumber, headAnswered}
-use Rattle.job.proofs.Sections.{head-number, head-refused}
+use Rattle.job_read.specs.Job.{headNumber, headAnswered}
+use Rattle.job_read.proofs.Sections.{head-number, head-refused}
 use Rattle.groups.proofs.Groups.{head-narrow, head-width, image-short, image-head, image-cells, image-narrow}
 use borrow.Author.Needs.{needs}
 use Rattle.groups.proofs.judge_image.Statement.{statement}

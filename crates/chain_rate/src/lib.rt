@@ -1,0 +1,106 @@
+// Plans over floats.
+
+ghost use mathlib.Core.Path.{_≡_};
+ghost use Prim.Native.Nat.{_≤_};
+ghost use lib.ListN.{length};
+ghost use Rattle.sample.specs.Samples.{rates};
+ghost use Rattle.plan.specs.Plan.{belowOf, cellsOf};
+ghost use Rattle.chain.specs.Run.{Leaves, Begins, Ready, after, Fronted, PlanStep};
+use plan::Plan;
+use plan::Stage;
+
+// What the stages of a plan made of a step: the comparisons, and whether the last stage's row stands in the row's place.
+pub struct Ran {
+    pub comparisons: usize,
+    pub due: bool,
+}
+
+// What a stage's own step made, and where the memory and the steps of the stages behind it begin.
+struct Front {
+    comparisons: usize,
+    cells: usize,
+    ahead: usize,
+}
+
+// A stage's own step on the front part of the memory, which is its own.
+fn run_front(
+    stage: Stage,
+    rows: usize,
+    t: usize,
+    values: &mut [f32],
+    positions: &mut [u16],
+    starts: &mut [u8],
+    lengths: &mut [u8],
+    row: &mut [f32],
+) -> Front
+    requires { ⌜ Begins stage (length (now row)) (record { values = now values; positions = now positions; starts = now starts; lengths = now lengths }) × (rows ≤ 65535) ⌝ }
+    ensures { λ r. ⌜ Fronted rates stage rows t (record { values = now (values .entry); positions = now (positions .entry); starts = now (starts .entry); lengths = now (lengths .entry) }) (now (row .entry)) (record { values = now (values .exit); positions = now (positions .exit); starts = now (starts .exit); lengths = now (lengths .exit) }) (now (row .exit)) (r .comparisons) × (r .cells ≡ cellsOf (length (now (row .entry))) stage) × (r .ahead ≡ belowOf stage) × Leaves (length (now (row .entry))) (r .cells) (r .comparisons) (length (now (values .exit))) (length (now (positions .exit))) (length (now (starts .exit))) (length (now (lengths .exit))) ⌝ }
+{
+    let width = row.len();
+    let cells = chain::cells_of(stage, width);
+    let comparisons = stage_rate::step(
+        stage,
+        rows,
+        t,
+        &mut values[..cells],
+        &mut positions[..cells],
+        &mut starts[..width],
+        &mut lengths[..width],
+        row,
+    );
+    Front {
+        comparisons: comparisons,
+        cells: cells,
+        ahead: plan::below(stage),
+    }
+}
+
+// The stages of a plan from stage i on, at step t of the plan that they are.
+pub fn run(
+    plan: Plan,
+    i: usize,
+    rows: usize,
+    t: usize,
+    values: &mut [f32],
+    positions: &mut [u16],
+    starts: &mut [u8],
+    lengths: &mut [u8],
+    row: &mut [f32],
+) -> Ran
+    requires { ⌜ Ready (after i plan) (length (now row)) (record { values = now values; positions = now positions; starts = now starts; lengths = now lengths }) × (rows ≤ 65535) × (i ≤ plan .count) × (plan .count ≤ 16) ⌝ }
+    ensures { λ r. ⌜ PlanStep rates (after i plan) rows t (record { values = now (values .entry); positions = now (positions .entry); starts = now (starts .entry); lengths = now (lengths .entry) }) (now (row .entry)) (record { values = now (values .exit); positions = now (positions .exit); starts = now (starts .exit); lengths = now (lengths .exit) }) (now (row .exit)) (r .comparisons) (r .due) ⌝ }
+{
+    let count = plan.count;
+    if count <= i {
+        return Ran {
+            comparisons: 0,
+            due: true,
+        };
+    }
+    let stage = plan.stages[i];
+    let width = row.len();
+    let f = run_front(stage, rows, t, values, positions, starts, lengths, row);
+    let ahead = f.ahead;
+    let cells = f.cells;
+    if t < ahead {
+        return Ran {
+            comparisons: f.comparisons,
+            due: false,
+        };
+    }
+    let rest = run(
+        plan,
+        i + 1,
+        rows,
+        t - ahead,
+        &mut values[cells..],
+        &mut positions[cells..],
+        &mut starts[width..],
+        &mut lengths[width..],
+        row,
+    );
+    Ran {
+        comparisons: f.comparisons + rest.comparisons,
+        due: rest.due,
+    }
+}

@@ -1,4 +1,0 @@
-pub mod Layout
-pub mod Job
-pub mod View
-pub mod Write

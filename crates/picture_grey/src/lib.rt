@@ -1,0 +1,220 @@
+// Pictures of grey bytes.
+
+ghost use mathlib.Core.Path.{_≡_};
+ghost use Prim.Native.Nat.{_+_, _<_};
+ghost use lib.ListN.{length};
+ghost use Rattle.sample.specs.Samples.{greys};
+ghost use Rattle.plan.specs.Plan.{planAhead};
+ghost use Rattle.picture_state.specs.Fit.{Fit};
+ghost use Rattle.picture_state.specs.Step.{Advanced, RowStep, DrainStep};
+ghost use Rattle.columns.specs.Columns.{Lent, columnAt};
+ghost use Rattle.picture_grey.specs.Shown.{greyShown};
+ghost use Rattle.picture_state.specs.ReadOut.{found, refused, shownAt, Shows};
+use morph::wide;
+use picture_state::State;
+use picture_state::Stepped;
+use queue_grey::Entry;
+
+// A step that is accepted, over a row of the width that the stages may write on.
+fn advance(
+    state: State,
+    work: &mut [u8],
+    out: &mut [u8],
+    values: &mut [u8],
+    positions: &mut [u16],
+    starts: &mut [u8],
+    lengths: &mut [u8],
+) -> Stepped
+    requires { ⌜ Fit state (record { values = now values; positions = now positions; starts = now starts; lengths = now lengths }) × (length (now work) ≡ state .width) × (length (now out) ≡ state .width) × (state .step < state .rows + planAhead (state .plan)) ⌝ }
+    ensures { λ r. ⌜ Advanced greys state (record { values = now (values .entry); positions = now (positions .entry); starts = now (starts .entry); lengths = now (lengths .entry) }) (now (work .entry)) (now (out .entry)) (record { values = now (values .exit); positions = now (positions .exit); starts = now (starts .exit); lengths = now (lengths .exit) }) (now (out .exit)) (r .answer) (r .state) ⌝ }
+{
+    let own = state.plan;
+    let plan = picture_state::whole(own);
+    let width = state.width;
+    let rows = state.rows;
+    let t = state.step;
+    let cells = plan::cells(plan, width);
+    let records = plan::records(plan, width);
+    let ran = chain_grey::run(
+        plan,
+        0,
+        rows,
+        t,
+        &mut values[..cells],
+        &mut positions[..cells],
+        &mut starts[..records],
+        &mut lengths[..records],
+        work,
+    );
+    let next = picture_state::moved(state);
+    if ran.due {
+        sample::grey::copy(&work[..], out);
+        return picture_state::came(next, t - plan::look_ahead(plan), ran.comparisons);
+    }
+    picture_state::waits(next, ran.comparisons)
+}
+
+// A row of zeros to work on.
+fn blank() -> [u8; 4096]
+    ensures { λ r. ⌜ 4096 ≡ length r ⌝ }
+{
+    [0; 4096]
+}
+
+// A row of the picture: its step's answer. The output row is written where a row is due.
+pub fn row(
+    state: State,
+    row: &[u8],
+    out: &mut [u8],
+    values: &mut [u8],
+    positions: &mut [u16],
+    starts: &mut [u8],
+    lengths: &mut [u8],
+) -> Stepped
+    ensures { λ r. ⌜ RowStep greys 0 state (record { values = now (values .entry); positions = now (positions .entry); starts = now (starts .entry); lengths = now (lengths .entry) }) (now (row .entry)) (now (out .entry)) (record { values = now (values .exit); positions = now (positions .exit); starts = now (starts .exit); lengths = now (lengths .exit) }) (now (out .exit)) (r .answer) (r .state) ⌝ }
+{
+    let number = picture_state::judging::judge_row(
+        0,
+        state,
+        row.len(),
+        out.len(),
+        values.len(),
+        positions.len(),
+        &starts[..],
+        &lengths[..],
+    );
+    if number != 0 {
+        return picture_state::refuses(state, number, 0);
+    }
+    let width = row.len();
+    let mut room = blank();
+    sample::grey::copy(row, &mut room[..width]);
+    advance(
+        state,
+        &mut room[..width],
+        out,
+        values,
+        positions,
+        starts,
+        lengths,
+    )
+}
+
+// A step without a row, once all are read.
+pub fn drain(
+    state: State,
+    out: &mut [u8],
+    values: &mut [u8],
+    positions: &mut [u16],
+    starts: &mut [u8],
+    lengths: &mut [u8],
+) -> Stepped
+    ensures { λ r. ⌜ DrainStep greys 0 state (record { values = now (values .entry); positions = now (positions .entry); starts = now (starts .entry); lengths = now (lengths .entry) }) (now (out .entry)) (record { values = now (values .exit); positions = now (positions .exit); starts = now (starts .exit); lengths = now (lengths .exit) }) (now (out .exit)) (r .answer) (r .state) ⌝ }
+{
+    let number = picture_state::judging::judge_drain(
+        0,
+        state,
+        out.len(),
+        values.len(),
+        positions.len(),
+        &starts[..],
+        &lengths[..],
+    );
+    if number != 0 {
+        return picture_state::refuses(state, number, 0);
+    }
+    let width = out.len();
+    let mut room = blank();
+    advance(
+        state,
+        &mut room[..width],
+        out,
+        values,
+        positions,
+        starts,
+        lengths,
+    )
+}
+
+// What a read-out answers.
+pub enum ReadOut {
+    Found(Entry),
+    Refused(u8),
+}
+
+fn finds(e: Entry) -> ReadOut
+    ensures { λ r. ⌜ greyShown r ≡ found (record { value = e .value; position = e .position }) ⌝ }
+{
+    ReadOut::Found(e)
+}
+
+fn lacks(number: u8) -> ReadOut
+    ensures { λ r. ⌜ greyShown r ≡ refused number ⌝ }
+{
+    ReadOut::Refused(number)
+}
+
+// Place k of column x's queue, in a stage's part of the memory.
+fn show<'a>(
+    places: usize,
+    values: &'a [u8],
+    positions: &'a [u16],
+    starts: &'a [u8],
+    lengths: &'a [u8],
+    x: usize,
+    k: usize,
+) -> ReadOut
+    requires { ⌜ Lent places (length (now starts)) (now positions) (now starts) (now lengths) × (length (now values) ≡ length (now positions)) × (x < length (now starts)) ⌝ }
+    ensures { λ r. ⌜ greyShown r ≡ shownAt greys (columnAt greys places (now (values .entry)) (now (positions .entry)) (now (starts .entry)) (now (lengths .entry)) x) k ⌝ }
+{
+    if wide(lengths[x]) <= k {
+        return lacks(11);
+    }
+    finds(columns_grey::entry(places, values, positions, starts, x, k))
+}
+
+// The entry at a place of the queue of a stage's column: places count from the oldest.
+pub fn read_out<'a>(
+    state: State,
+    stage: usize,
+    column: usize,
+    place: usize,
+    values: &'a [u8],
+    positions: &'a [u16],
+    starts: &'a [u8],
+    lengths: &'a [u8],
+) -> ReadOut
+    ensures { λ r. ⌜ Shows greys 0 state (record { values = now (values .entry); positions = now (positions .entry); starts = now (starts .entry); lengths = now (lengths .entry) }) stage column place (greyShown r) ⌝ }
+{
+    let number = picture_state::place::judge_place(
+        0,
+        state,
+        stage,
+        column,
+        values.len(),
+        positions.len(),
+        starts,
+        lengths,
+    );
+    if number != 0 {
+        return lacks(number);
+    }
+    let own = state.plan;
+    let plan = picture_state::whole(own);
+    let width = state.width;
+    let part = picture_state::place::part_of(plan, stage, width);
+    let places = part.places;
+    let lo = part.cells;
+    let hi = lo + width * places;
+    let from = stage * width;
+    let to = from + width;
+    show(
+        places,
+        &values[lo..hi],
+        &positions[lo..hi],
+        &starts[from..to],
+        &lengths[from..to],
+        column,
+        place,
+    )
+}

@@ -1,0 +1,4 @@
+pub mod Numbers
+pub mod Step
+pub mod Starting
+pub mod ReadingOut

@@ -1,0 +1,298 @@
+-- The laws of a read-out: its number, the part of the memory that is a stage's own, and what stands at a place of a queue of it.
+use mathlib.Core.Path.{_≡_, refl, sym, ap, _∙_}
+use mathlib.Core.Bool.{Bool, true, false, cond, _||_}
+use mathlib.Core.List.{List, [], _∷_, map}
+use Prim.Native.Nat.{ℕ, zero, suc, _+_, _-_, _*_, _≤_, _<_, min}
+use native.Mathlib.Nat.{sub-zero, zero-mul, not-suc-le-zero, mul-le-mul-right}
+use native.Mathlib.Omega.{arith}
+use borrow.Author.Tests.{le-leb, lt-leb, leb-false}
+use lib.Dec.{leb}
+use lib.ListN.{length, getD, take, drop, length-take, length-drop}
+use lib.Seq.{length-take-le, drop-drop, take-take, getD-take}
+use Rattle.morph.specs.Line.{Entry}
+use Rattle.morph.specs.Picture.{Picture, applyStage, applyPlan, lookAhead}
+use Rattle.morph.specs.Plan.{columnQueue, planQueue}
+use Rattle.morph.proofs.Lists.{both, neither}
+use Rattle.morph.proofs.Picture.{stage-length}
+use Rattle.sample.specs.Samples.{Samples}
+use Rattle.columns.specs.Columns.{Lent, soundRecords, columnAt, EntryAt}
+use Rattle.columns.proofs.Column.{column-length}
+use Rattle.columns.proofs.Records.{test-sound}
+use Rattle.plan.specs.declared.Stage.{Stage}
+use Rattle.plan.specs.declared.Plan.{Plan}
+use Rattle.plan.specs.Numbers.{given, firstOf}
+use Rattle.plan.specs.Plan.{unused, used, filterOf, sizeOf, belowOf, cellsOf, total, cellsNeeded, recordsNeeded}
+use Rattle.plan.proofs.Numbers.{first-one, first-skip, first-found, first-zero, given-zero}
+use Rattle.stage.specs.Stage.{Memory}
+use Rattle.chain.specs.Run.{behind, allSound, Holds}
+use Rattle.picture_state.specs.declared.State.{State}
+use Rattle.picture_state.specs.Fit.{Accepted, Fit}
+use Rattle.picture_state.specs.Numbers.{lentNumber, memoryJudged}
+use Rattle.picture_state.specs.ReadOut.{Shown, found, refused, placedNumber, queueAt, shownAt, readNumber, Shows}
+use Rattle.picture_state.proofs.Step.{judged-fit}
+
+-- ---- the number, but for the queue's place
+
+module _ (kind : ℕ) (S : State) (stage column values positions : ℕ) (starts lengths : List ℕ) where
+  abbrev lent : ℕ
+  lent = lentNumber kind S values positions starts lengths
+
+  abbrev named : List ℕ
+  named = given 11 (leb (S .plan .count) stage || leb (S .width) column) ∷ []
+
+  abbrev placed : ℕ
+  placed = placedNumber kind S stage column values positions starts lengths
+
+  pub place-lent : (n : ℕ) → n ≡ lent → (n ≡ 0 → ⊥) → n ≡ placed
+  unfolding placedNumber
+  place-lent n e h = e ∙ sym (first-found lent named (λ z. h (e ∙ z)))
+
+  place-past : lent ≡ 0 → firstOf named ≡ placed
+  unfolding placedNumber
+  place-past z = sym (first-skip lent named z)
+
+  module _ (z : lent ≡ 0) where
+    pub place-stage : S .plan .count ≤ stage → 11 ≡ placed
+    place-stage a = simp (le-leb (S .plan .count) stage a) at (place-past z)
+
+    module _ (a : stage < S .plan .count) where
+      pub place-column : S .width ≤ column → 11 ≡ placed
+      place-column b = simp (lt-leb (S .plan .count) stage a, le-leb (S .width) column b) at (place-past z)
+
+      pub place-all : column < S .width → 0 ≡ placed
+      place-all b = simp (lt-leb (S .plan .count) stage a, lt-leb (S .width) column b) at (place-past z)
+
+  pub place-accepted : placed ≡ 0 → (lent ≡ 0) × (stage < S .plan .count) × (column < S .width)
+  unfolding placedNumber
+  place-accepted e =
+      let (a, b) = first-zero lent named e in
+      let (c, _) = first-zero (given 11 (leb (S .plan .count) stage || leb (S .width) column)) [] b in
+      let (f, g) = neither (leb (S .plan .count) stage) _ (given-zero 10 _ c) in
+      (a, leb-false (S .plan .count) stage f, leb-false (S .width) column g)
+
+-- a number that is there stays, whatever else breaks the last rule
+first-stays : (l : ℕ) (x c : Bool) → (firstOf (l ∷ given 11 x ∷ []) ≡ 0 → ⊥) → firstOf (l ∷ given 11 (x || c) ∷ []) ≡ firstOf (l ∷ given 11 x ∷ [])
+first-stays zero true c h = refl
+first-stays zero false c h = absurd (h refl)
+first-stays (suc l) x c h = refl
+
+-- ---- what an answer says of a place
+
+module _ {A : Type 0} where
+  answers : (b : Bool) (n : ℕ) (s f : Shown A) → n ≡ given 11 b → s ≡ cond b (refused 11) f → ((n ≡ 0 → ⊥) → s ≡ refused n) × (n ≡ 0 → s ≡ f)
+  answers true n s f e h = (λ _. h ∙ ap refused (sym e), λ (z : n ≡ 0). absurd (omega arith))
+  answers false n s f e h = (λ k. absurd (k e), λ _. h)
+
+module _ {A : Type 0} (K : Samples A) (P x : ℕ) (vs : List A) (ps ss ls : List ℕ) (k n : ℕ) (s : Shown A) (e : n ≡ getD ls x 0) where
+  pub show-lacks : n ≤ k → s ≡ refused 11 → s ≡ shownAt K (columnAt K P vs ps ss ls x) k
+  show-lacks h q =
+      let l = column-length K P x vs ps ss ls in
+      q ∙ rw (le-leb (length (columnAt K P vs ps ss ls x)) k (omega arith))
+
+  pub show-finds : (v : A) (p : ℕ) → k < n → EntryAt K P vs ps ss x k v p → s ≡ found (record { value = v; position = p }) → s ≡ shownAt K (columnAt K P vs ps ss ls x) k
+  show-finds v p h g q =
+      let l = column-length K P x vs ps ss ls in
+      q ∙ rw (lt-leb (length (columnAt K P vs ps ss ls x)) k (omega arith)) (ap found (sym (g ls (record { value = K .order .blank; position = 0 }) (omega arith))))
+
+-- ---- the part of a stage
+
+module _ (W : ℕ) where
+  -- it ends within what all the stages need
+  cells-there : (ss : List Stage) (i : ℕ) → i < length ss → total (cellsOf W) (take i ss) + cellsOf W (getD ss i unused) ≤ total (cellsOf W) ss
+  cells-there [] i h = absurd (not-suc-le-zero h)
+  cells-there (s ∷ ss) zero h = omega arith
+  cells-there (s ∷ ss) (suc i) h = let r = cells-there ss i (omega arith) in omega arith
+
+  sound-both : (s : Stage) (ss : List Stage) (starts lengths : List ℕ) → allSound W (s ∷ ss) starts lengths ≡ true
+      → (soundRecords (sizeOf s) (take W starts) (take W lengths) ≡ true) × (allSound W ss (drop W starts) (drop W lengths) ≡ true)
+  unfolding allSound
+  sound-both s ss starts lengths e = both (soundRecords (sizeOf s) (take W starts) (take W lengths)) (allSound W ss (drop W starts) (drop W lengths)) e
+
+  sound-there : (ss : List Stage) (i : ℕ) (starts lengths : List ℕ) → i < length ss → allSound W ss starts lengths ≡ true
+      → soundRecords (sizeOf (getD ss i unused)) (take W (drop (i * W) starts)) (take W (drop (i * W) lengths)) ≡ true
+  sound-there [] i starts lengths h e = absurd (not-suc-le-zero h)
+  sound-there (s ∷ ss) zero starts lengths h e = rw (zero-mul W) (sound-both s ss starts lengths e .0)
+  sound-there (s ∷ ss) (suc i) starts lengths h e =
+      let q : suc i * W ≡ W + i * W = omega arith in
+      let r = sound-there ss i (drop W starts) (drop W lengths) (omega arith) (sound-both s ss starts lengths e .1) in
+      rw (q, ← drop-drop (i * W) W starts, ← drop-drop (i * W) W lengths) r
+
+  module _ {A : Type 0} (K : Samples A) (x : ℕ) where
+    -- the queue of a column in the part that is cut
+    abbrev cut : Stage → ℕ → ℕ → Memory A → List (Entry A)
+    cut s n f M = columnAt K (sizeOf s) (take (cellsOf W s) (drop n (M .values))) (take (cellsOf W s) (drop n (M .positions))) (take W (drop f (M .starts))) (take W (drop f (M .lengths))) x
+
+    cut-behind : (s r : Stage) (n f : ℕ) (M : Memory A) → cut s n f (behind (cellsOf W r) W M) ≡ cut s (cellsOf W r + n) (W + f) M
+    cut-behind s r n f M = rw (drop-drop n (cellsOf W r) (M .values), drop-drop n (cellsOf W r) (M .positions), drop-drop f W (M .starts), drop-drop f W (M .lengths))
+
+    queue-cut : (ss : List Stage) (i : ℕ) (M : Memory A) → i < length ss → queueAt K ss W M i x ≡ cut (getD ss i unused) (total (cellsOf W) (take i ss)) (i * W) M
+    unfolding queueAt
+    queue-cut [] i M h = absurd (not-suc-le-zero h)
+    queue-cut (s ∷ ss) zero M h = rw (zero-mul W)
+    queue-cut (s ∷ ss) (suc i) M h =
+        let q : suc i * W ≡ W + i * W = omega arith in
+        queue-cut ss i (behind (cellsOf W s) W M) (omega arith)
+        ∙ cut-behind (getD ss i unused) s (total (cellsOf W) (take i ss)) (i * W) M
+        ∙ ap (λ f. cut (getD ss i unused) (cellsOf W s + total (cellsOf W) (take i ss)) f M) (sym q)
+
+-- ---- what a run leaves is what a read-out shows
+
+module _ {A : Type 0} (K : Samples A) (W x : ℕ) (across : x < W) where
+  -- After t steps of a plan over p the queue of a column is that of document 01: "A stage's own step is the plan's step less the F down of the stages before it".
+  pub queue-run : (ss : List Stage) (i : ℕ) (p : Picture A) (t : ℕ) (M : Memory A) → i < length ss → Holds K ss W p t M
+      → queueAt K ss W M i x ≡ planQueue (map (filterOf (K .order)) (take i ss)) (filterOf (K .order) (getD ss i unused)) x p t
+  unfolding Holds queueAt planQueue applyPlan lookAhead
+  queue-run [] i p t M h g = absurd (not-suc-le-zero h)
+  queue-run (s ∷ ss) zero p t M h g = g .0 x across ∙ rw sub-zero
+  queue-run (s ∷ ss) (suc i) p t M h g =
+      let F = filterOf (K .order) s in
+      let G = filterOf (K .order) (getD ss i unused) in
+      let Fs = map (filterOf (K .order)) (take i ss) in
+      let l : length (applyStage F p) ≡ length p = stage-length F p in
+      let e : min (t - belowOf s - lookAhead Fs) (length (applyStage F p) + belowOf (getD ss i unused)) ≡ min (t - (belowOf s + lookAhead Fs)) (length p + belowOf (getD ss i unused)) = omega arith in
+      queue-run ss i (applyStage F p) (t - belowOf s) (behind (cellsOf W s) W M) (omega arith) (g .1) ∙ ap (columnQueue G x (applyPlan Fs (applyStage F p))) e
+
+-- ---- a place that is accepted
+
+-- the stage and the column are there, and so many cells before the stage's own
+pub record Place {A : Type 0} (S : State) (M : Memory A) (stage column cells places : ℕ) : Type 0 where
+  pub fit : Fit S M
+  pub there : stage < S .plan .count
+  pub across : column < S .width
+  pub long : length (S .plan .stages) ≡ 16
+  pub begins : cells ≡ total (cellsOf (S .width)) (take stage (S .plan .stages))
+  pub size : places ≡ sizeOf (getD (S .plan .stages) stage unused)
+
+-- the part ends within the memory lent, which the stages' cells and records are cut from
+abbrev pub Within : {A : Type 0} → ℕ → ℕ → ℕ → ℕ → Memory A → Type 0
+Within width stage cells places M =
+    (cells + width * places ≤ length (M .values))
+    × (cells + width * places ≤ length (M .positions))
+    × (stage * width + width ≤ length (M .starts))
+    × (stage * width + width ≤ length (M .lengths))
+
+pub placed-part : {A : Type 0} (kind : ℕ) (S : State) (M : Memory A) (stage column : ℕ) (plan : Plan) → plan ≡ S .plan
+    → placedNumber kind S stage column (length (M .values)) (length (M .positions)) (M .starts) (M .lengths) ≡ 0 → Accepted plan × (stage < plan .count) × (S .width ≤ 4096)
+placed-part kind S M stage column plan e z =
+    let (a, b, c) = place-accepted kind S stage column (length (M .values)) (length (M .positions)) (M .starts) (M .lengths) z in
+    let f = judged-fit kind S M a in
+    rw e (f .run .plan, b, f .run .narrow)
+
+pub placed-place : {A : Type 0} (kind : ℕ) (S : State) (M : Memory A) (stage column cells places : ℕ) (plan : Plan) → (plan ≡ S .plan) × (length (S .plan .stages) ≡ 16)
+    → placedNumber kind S stage column (length (M .values)) (length (M .positions)) (M .starts) (M .lengths) ≡ 0
+    → (cells ≡ total (cellsOf (S .width)) (take stage (plan .stages))) × (places ≡ sizeOf (getD (plan .stages) stage unused)) → Place S M stage column cells places
+placed-place kind S M stage column cells places plan (e, l) z (n, p) =
+    let (a, b, c) = place-accepted kind S stage column (length (M .values)) (length (M .positions)) (M .starts) (M .lengths) z in
+    record {
+      fit = judged-fit kind S M a;
+      there = b;
+      across = c;
+      long = l;
+      begins = n ∙ ap (λ (p : Plan). total (cellsOf (S .width)) (take stage (p .stages))) e;
+      size = p ∙ ap (λ (p : Plan). sizeOf (getD (p .stages) stage unused)) e;
+    }
+
+module _ {A : Type 0} (S : State) (M : Memory A) (stage column cells places : ℕ) (h : Place S M stage column cells places) where
+  abbrev W : ℕ
+  W = S .width
+
+  abbrev own : Stage
+  own = getD (used (S .plan)) stage unused
+
+  used-there : stage < length (used (S .plan))
+  used-there = rw length-take (omega (arith, h .there, h .long, h .fit .run .plan .few))
+
+  own-stage : getD (S .plan .stages) stage unused ≡ own
+  own-stage = sym (getD-take (S .plan .count) (S .plan .stages) stage unused (h .there))
+
+  own-size : places ≡ sizeOf own
+  own-size = h .size ∙ ap sizeOf own-stage
+
+  own-begins : cells ≡ total (cellsOf W) (take stage (used (S .plan)))
+  own-begins = h .begins ∙ ap (total (cellsOf W)) (sym (take-take stage (S .plan .count) (S .plan .stages) (omega (arith, h .there))))
+
+  pub place-within : Within W stage cells places M
+  place-within =
+      let c = cells-there W (used (S .plan)) stage used-there in
+      let d : cells + W * places ≤ cellsNeeded (S .plan) W = rw (own-begins, own-size) c in
+      let r : suc stage * W ≤ recordsNeeded (S .plan) W = mul-le-mul-right W (h .there) in
+      (omega (arith, h .fit .values-lent), omega (arith, h .fit .positions-lent), omega (arith, h .fit .starts-lent), omega (arith, h .fit .lengths-lent))
+
+  -- the parts as the code cuts them
+  abbrev cells-of : {B : Type 0} → List B → List B
+  cells-of l = take (cells + W * places - cells) (drop cells l)
+
+  abbrev records-of : List ℕ → List ℕ
+  records-of l = take (stage * W + W - stage * W) (drop (stage * W) l)
+
+  cells-cut : {B : Type 0} (l : List B) → cells + W * places ≤ length l → length (cells-of l) ≡ W * places
+  cells-cut l k = let e : cells + W * places - cells ≡ W * places = omega arith in rw e (length-take-le (W * places) (drop cells l) (rw length-drop (omega arith)))
+
+  records-cut : (l : List ℕ) → stage * W + W ≤ length l → length (records-of l) ≡ W
+  records-cut l k = let e : stage * W + W - stage * W ≡ W = omega arith in rw e (length-take-le W (drop (stage * W) l) (rw length-drop (omega arith)))
+
+  pub place-asks : Lent places (length (records-of (M .starts))) (cells-of (M .positions)) (records-of (M .starts)) (records-of (M .lengths))
+      × (length (cells-of (M .values)) ≡ length (cells-of (M .positions))) × (column < length (records-of (M .starts)))
+  place-asks =
+      let w = place-within in
+      let a = records-cut (M .starts) (w .2) in
+      let b = records-cut (M .lengths) (w .3) in
+      let c = cells-cut (M .positions) (w .1) in
+      let s = h .fit .run .plan .small stage (h .there) in
+      let e : stage * W + W - stage * W ≡ W = omega arith in
+      let t = sound-there W (used (S .plan)) stage (M .starts) (M .lengths) used-there (h .fit .sound) in
+      let g : soundRecords places (records-of (M .starts)) (records-of (M .lengths)) ≡ true = rw (e, own-size) t in (
+        record {
+          places = omega (arith, h .size, s .up, s .down);
+          width = rw a (h .fit .run .narrow);
+          positions-long = rw a c;
+          starts-long = refl;
+          lengths-long = b ∙ sym a;
+          sound = rw a (test-sound places W (records-of (M .starts)) (records-of (M .lengths)) a b g);
+        },
+        cells-cut (M .values) (w .0) ∙ sym c,
+        rw a (h .across),
+      )
+
+  module _ (K : Samples A) where
+    place-queue : columnAt K places (cells-of (M .values)) (cells-of (M .positions)) (records-of (M .starts)) (records-of (M .lengths)) column ≡ queueAt K (used (S .plan)) W M stage column
+    place-queue =
+        let e : stage * W + W - stage * W ≡ W = omega arith in
+        let f : cells + W * places - cells ≡ W * places = omega arith in
+        rw (e, f, own-begins, own-size) (sym (queue-cut W K column (used (S .plan)) stage M used-there))
+
+    module _ (kind place : ℕ) (s : Shown A) (z : placedNumber kind S stage column (length (M .values)) (length (M .positions)) (M .starts) (M .lengths) ≡ 0) where
+      read-past : readNumber K kind S M stage column place ≡ given 11 (leb (length (queueAt K (used (S .plan)) W M stage column)) place)
+      unfolding readNumber
+      read-past =
+          let (a, b, c) = place-accepted kind S stage column (length (M .values)) (length (M .positions)) (M .starts) (M .lengths) z in
+          let q = leb (length (queueAt K (used (S .plan)) W M stage column)) place in
+          first-skip (memoryJudged kind S M) (given 11 (leb (S .plan .count) stage || leb W column || q) ∷ []) a
+          ∙ first-one (given 11 (leb (S .plan .count) stage || leb W column || q))
+          ∙ rw (lt-leb (S .plan .count) stage b, lt-leb W column c)
+
+      pub shows-place : s ≡ shownAt K (columnAt K places (cells-of (M .values)) (cells-of (M .positions)) (records-of (M .starts)) (records-of (M .lengths)) column) place
+          → Shows K kind S M stage column place s
+      shows-place e =
+          let q = queueAt K (used (S .plan)) W M stage column in
+          let (a, b) = answers (leb (length q) place) (readNumber K kind S M stage column place) s (found (getD q place (record { value = K .order .blank; position = 0 }))) read-past (e ∙ ap (λ q. shownAt K q place) place-queue) in
+          record { refusal = a; accepted = b }
+
+module _ {A : Type 0} (K : Samples A) (kind : ℕ) (S : State) (M : Memory A) (stage column place : ℕ) where
+  pub shows-refused : (n : ℕ) (s : Shown A) → n ≡ placedNumber kind S stage column (length (M .values)) (length (M .positions)) (M .starts) (M .lengths) → (n ≡ 0 → ⊥) → s ≡ refused n
+      → Shows K kind S M stage column place s
+  unfolding readNumber placedNumber
+  shows-refused n s e h q =
+      let r : readNumber K kind S M stage column place ≡ n =
+      first-stays (memoryJudged kind S M) (leb (S .plan .count) stage || leb (S .width) column) (leb (length (queueAt K (used (S .plan)) (S .width) M stage column)) place) (λ z. h (e ∙ z)) ∙ sym e in
+      record { refusal = λ _. q ∙ ap refused (sym r); accepted = λ z. absurd (h (sym r ∙ z)) }
+
+  -- the answer follows from the inputs alone
+  pub shows-unique : (s t : Shown A) → Shows K kind S M stage column place s → Shows K kind S M stage column place t → s ≡ t
+  shows-unique s t h k = go (readNumber K kind S M stage column place) refl
+    where
+      go : (n : ℕ) → readNumber K kind S M stage column place ≡ n → s ≡ t
+      go zero e = h .accepted e ∙ sym (k .accepted e)
+      go (suc n) e =
+          let z : readNumber K kind S M stage column place ≡ 0 → ⊥ = λ (y : readNumber K kind S M stage column place ≡ 0). omega arith in
+          h .refusal z ∙ sym (k .refusal z)

@@ -1,0 +1,279 @@
+-- The laws of a start: its number, the records that it clears, and that the state and the memory afterwards are those before the first step of any picture.
+use mathlib.Core.Path.{_≡_, refl, sym, ap, _∙_, subst}
+use mathlib.Core.Bool.{Bool, true, false, not, _||_}
+use mathlib.Core.List.{List, [], _∷_, _++_}
+use Prim.Native.Nat.{ℕ, zero, suc, _+_, _-_, _*_, _≤_, _<_, min}
+use native.Mathlib.Nat.{mul-le-mul-right}
+use native.Mathlib.Numerals.{add-one}
+use native.Mathlib.Omega.{arith}
+use borrow.Author.Tests.{le-ltb, eq-eqb}
+use lib.Dec.{ltb, eqb}
+use lib.ListN.{length, getD, take, drop, set, replicate, length-append, length-take, length-drop, length-replicate, getD-replicate, List·getD-append}
+use lib.Seq.{drop-cons, set-at, getD-take, getD-drop, length-take-le}
+use Rattle.morph.specs.Picture.{Picture, applyStage}
+use Rattle.morph.specs.Plan.{columnQueue}
+use Rattle.morph.proofs.Line.{queue-start}
+use Rattle.sample.specs.Samples.{Samples}
+use Rattle.columns.specs.Columns.{soundRecords}
+use Rattle.columns.proofs.Column.{column-length}
+use Rattle.columns.proofs.Records.{sound-test}
+use Rattle.plan.specs.declared.Stage.{Stage}
+use Rattle.plan.specs.declared.Plan.{Plan}
+use Rattle.plan.specs.Numbers.{given, sampleNumber, sizeNumber}
+use Rattle.plan.specs.Plan.{used, sizeOf, cellsOf, belowOf, filterOf, recordNumber, recordsNeeded, planAhead, planOf, stagesFrom, planNumber, planRead}
+use Rattle.plan.specs.declared.Reading.{Reading}
+use Rattle.plan.proofs.Named.{judged-reading}
+use Rattle.plan.proofs.Numbers.{size-accepted, first-one, first-skip, first-found, first-zero}
+use Rattle.stage.specs.Stage.{Memory, StageHolds}
+use Rattle.chain.specs.Run.{frontOf, behind, allSound, Holds}
+use Rattle.picture_state.specs.declared.State.{State}
+use Rattle.picture_state.specs.declared.Started.{Started}
+use Rattle.picture_state.specs.Numbers.{memoryNumber, startNumber, stateNumber}
+use Rattle.picture_state.specs.Start.{firstState, noState, cleared, numbersNumber, Start}
+use Rattle.picture_state.proofs.Numbers.{plan-accepted, memory-accepted}
+
+-- ---- the number
+
+module _ (plan : Plan) (sample width rows cells records : ℕ) where
+  abbrev number : ℕ
+  number = startNumber plan sample width rows cells records
+
+  -- what is left to judge after the size, the sample kind and the plan
+  abbrev after-size : List ℕ
+  after-size = memoryNumber plan width cells records ∷ []
+
+  abbrev after-sample : List ℕ
+  after-sample = sizeNumber width rows ∷ after-size
+
+  abbrev after-plan : List ℕ
+  after-plan = sampleNumber sample ∷ after-sample
+
+  pub start-plan : (n : ℕ) → n ≡ recordNumber plan → (n ≡ 0 → ⊥) → n ≡ number
+  unfolding startNumber
+  start-plan n e h = e ∙ sym (first-found (recordNumber plan) after-plan (λ z. h (e ∙ z)))
+
+  module _ (a : recordNumber plan ≡ 0) where
+    pub start-sample : (n : ℕ) → n ≡ sampleNumber sample → (n ≡ 0 → ⊥) → n ≡ number
+    unfolding startNumber
+    start-sample n e h = e ∙ sym (first-skip (recordNumber plan) after-plan a ∙ first-found (sampleNumber sample) after-sample (λ z. h (e ∙ z)))
+
+    module _ (b : sampleNumber sample ≡ 0) where
+      pub start-size : (n : ℕ) → n ≡ sizeNumber width rows → (n ≡ 0 → ⊥) → n ≡ number
+      unfolding startNumber
+      start-size n e h =
+          e ∙ sym (first-skip (recordNumber plan) after-plan a ∙ first-skip (sampleNumber sample) after-sample b ∙ first-found (sizeNumber width rows) after-size (λ z. h (e ∙ z)))
+
+      pub start-memory : sizeNumber width rows ≡ 0 → (n : ℕ) → n ≡ memoryNumber plan width cells records → n ≡ number
+      unfolding startNumber
+      start-memory c n e =
+          e
+          ∙ sym
+          (first-skip (recordNumber plan) after-plan a
+          ∙ first-skip (sampleNumber sample) after-sample b
+          ∙ first-skip (sizeNumber width rows) after-size c
+          ∙ first-one (memoryNumber plan width cells records))
+
+  -- nothing is wrong: what that says
+  pub start-accepted : number ≡ 0 → (recordNumber plan ≡ 0) × (sampleNumber sample ≡ 0) × (sizeNumber width rows ≡ 0) × (memoryNumber plan width cells records ≡ 0)
+  unfolding startNumber
+  start-accepted e =
+      let (a, f) = first-zero (recordNumber plan) after-plan e in
+      let (b, g) = first-zero (sampleNumber sample) after-sample f in
+      let (c, h) = first-zero (sizeNumber width rows) after-size g in
+      let (d, _) = first-zero (memoryNumber plan width cells records) [] h in
+      (a, b, c, d)
+
+-- ---- clearing
+
+zeros-more : (i : ℕ) (l : List ℕ) → replicate i 0 ++ 0 ∷ l ≡ replicate (suc i) 0 ++ l
+zeros-more zero l = refl
+zeros-more (suc i) l = ap (λ m. 0 ∷ m) (zeros-more i l)
+
+pub clear-first : (l : List ℕ) → l ≡ cleared 0 l
+unfolding cleared
+clear-first l = refl
+
+pub clear-next : (l bytes : List ℕ) (i : ℕ) → i < length l → bytes ≡ cleared i l → set bytes i 0 ≡ cleared (i + 1) l
+unfolding cleared
+clear-next l bytes i h e =
+    let f : bytes ≡ replicate i 0 ++ getD l i 0 ∷ drop (suc i) l = e ∙ ap (λ d. replicate i 0 ++ d) (drop-cons l i 0 h) in
+    ap (λ b. set b i 0) f ∙ set-at (replicate i 0) (getD l i 0) (drop (suc i) l) 0 i (length-replicate i 0) ∙ zeros-more i (drop (suc i) l) ∙ ap (λ k. replicate k 0 ++ drop k l) (sym (add-one i))
+
+pub clear-last : (n i : ℕ) (l bytes : List ℕ) → n ≤ i → i ≤ n → bytes ≡ cleared i l → bytes ≡ cleared n l
+clear-last n i l bytes h k e = let q : i ≡ n = omega arith in e ∙ ap (λ m. cleared m l) q
+
+pub cleared-at : (n : ℕ) (l : List ℕ) (i : ℕ) → i < n → getD (cleared n l) i 0 ≡ 0
+unfolding cleared
+cleared-at n l i h = List·getD-append (replicate n 0) (drop n l) 0 i (rw length-replicate h) ∙ getD-replicate n i 0 0 h
+
+pub cleared-long : (n : ℕ) (l : List ℕ) → n ≤ length l → length (cleared n l) ≡ length l
+unfolding cleared
+cleared-long n l h = rw (length-append, length-replicate, length-drop) (omega arith)
+
+-- ---- the answer
+
+-- what an accepted start may rely on
+pub start-fits : (plan : Plan) (sample width rows cells records : ℕ) → startNumber plan sample width rows cells records ≡ 0 → (plan .count ≤ 16) × (width ≤ 4096) × (recordsNeeded plan width ≤ records)
+start-fits plan sample width rows cells records e =
+    let (a, _, c, d) = start-accepted plan sample width rows cells records e in
+    let (_, w, _, _) = size-accepted width rows c in
+    let (_, m) = memory-accepted plan width cells records d in
+    (plan-accepted plan a .few, w, m)
+
+module _ (number needed : ℕ) (first : State) (starts lengths : List ℕ) where
+  pub start-refused : (n : ℕ) (r : Started) → n ≡ number → (n ≡ 0 → ⊥) → r .number ≡ n → r .state ≡ noState → Start number first needed starts lengths starts lengths r
+  start-refused n r e h q s = record { told = q ∙ e; refusal = λ _. (s, refl, refl); accepted = λ z. absurd (h (e ∙ z)) }
+
+  pub start-went : (n : ℕ) (s : State) (starts′ lengths′ : List ℕ) → number ≡ 0 → n ≡ needed → s ≡ first → starts′ ≡ cleared n starts → lengths′ ≡ cleared n lengths
+      → Start number first needed starts lengths starts′ lengths′ (record { number = 0; state = s })
+  start-went n s starts′ lengths′ z e f a b =
+      record { told = sym z; refusal = λ k. absurd (k z); accepted = λ _. (f, a ∙ ap (λ m. cleared m starts) e, b ∙ ap (λ m. cleared m lengths) e) }
+
+-- "the answer, the state and all lent cells afterwards follow from its inputs alone"
+abbrev started : ℕ → State → Started
+started number state = record { number = number; state = state }
+
+started-same : (r q : Started) → r .number ≡ q .number → r .state ≡ q .state → r ≡ q
+started-same r q a b = ap (λ n. started n (r .state)) a ∙ ap (λ s. started (q .number) s) b
+
+pub start-unique : (number needed : ℕ) (first : State) (starts lengths a b c d : List ℕ) (r q : Started)
+    → Start number first needed starts lengths a b r → Start number first needed starts lengths c d q → (r ≡ q) × (a ≡ c) × (b ≡ d)
+start-unique zero needed first starts lengths a b c d r q h k =
+    let (x, y, z) = h .accepted refl in
+    let (u, v, w) = k .accepted refl in
+    (started-same r q (h .told ∙ sym (k .told)) (x ∙ sym u), y ∙ sym v, z ∙ sym w)
+start-unique (suc n) needed first starts lengths a b c d r q h k =
+    let (x, y, z) = h .refusal (λ (e : suc n ≡ 0). omega arith) in
+    let (u, v, w) = k .refusal (λ (e : suc n ≡ 0). omega arith) in
+    (started-same r q (h .told ∙ sym (k .told)) (x ∙ sym u), y ∙ sym v, z ∙ sym w)
+
+-- ---- before the first step: all queues are empty, whatever the cells hold
+
+none : {A : Type 0} (l : List A) → length l ≡ 0 → l ≡ []
+none [] e = refl
+none (a ∷ l) e = absurd (omega arith)
+
+-- the first n of a list are 0
+abbrev Zeros : ℕ → List ℕ → Type 0
+Zeros n l = (i : ℕ) → i < n → getD l i 0 ≡ 0
+
+module _ {A : Type 0} (K : Samples A) where
+  stage-first : (s : Stage) (W : ℕ) (p : Picture A) (t : ℕ) → t ≡ 0 → (M : Memory A) → Zeros W (M .lengths) → StageHolds K s W p t (frontOf (cellsOf W s) W M)
+  unfolding columnQueue
+  stage-first s W p t e M h x k =
+      none _
+      (column-length K (sizeOf s) x (take (cellsOf W s) (M .values)) (take (cellsOf W s) (M .positions)) (take W (M .starts)) (take W (M .lengths)) ∙ getD-take W (M .lengths) x 0 k ∙ h x k)
+      ∙ sym (queue-start _ _ _ (min t (length p + belowOf s)) (omega arith))
+
+  pub holds-first : (ss : List Stage) (W : ℕ) (p : Picture A) (t : ℕ) → t ≡ 0 → (M : Memory A) → Zeros (length ss * W) (M .lengths) → Holds K ss W p t M
+  unfolding Holds
+  holds-first [] W p t e M h = tt
+  holds-first (s ∷ ss) W p t e M h = (
+    stage-first s W p t e M (λ i k. h i (omega arith)),
+    holds-first ss W (applyStage (filterOf (K .order) s) p) (t - belowOf s) (omega arith) (behind (cellsOf W s) W M) (λ i k. getD-drop W (M .lengths) i 0 ∙ h (W + i) (omega arith)),
+  )
+
+pub sound-zeros : (ss : List Stage) (W : ℕ) (starts lengths : List ℕ) → Zeros (length ss * W) starts → Zeros (length ss * W) lengths
+    → length ss * W ≤ length starts → length ss * W ≤ length lengths → allSound W ss starts lengths ≡ true
+unfolding allSound
+sound-zeros [] W starts lengths a b m n = refl
+sound-zeros (s ∷ ss) W starts lengths a b m n =
+    let here : soundRecords (sizeOf s) (take W starts) (take W lengths) ≡ true =
+    sound-test (sizeOf s) W (take W starts) (take W lengths) (length-take-le W starts (omega arith)) (length-take-le W lengths (omega arith))
+    (record {
+      below = λ x k. omega (arith, getD-take W starts x 0 k, a x (omega arith));
+      fits = λ x k. omega (arith, getD-take W lengths x 0 k, b x (omega arith));
+    }) in
+    let rest : allSound W ss (drop W starts) (drop W lengths) ≡ true =
+    sound-zeros ss W (drop W starts) (drop W lengths) (λ i k. getD-drop W starts i 0 ∙ a (W + i) (omega arith)) (λ i k. getD-drop W lengths i 0 ∙ b (W + i) (omega arith))
+    (rw length-drop (omega arith)) (rw length-drop (omega arith)) in
+    rw (here, rest)
+
+state-none : (m n k : ℕ) (b : Bool) → m ≡ 0 → n ≡ 0 → k ≡ 0 → b ≡ false → given 12 (not (eqb m 0) || not (eqb n 0) || not (eqb k 0) || b) ≡ 0
+state-none m n k b e f g h = rw (e, f, g, h)
+
+pub state-first : (plan : Plan) (sample width rows : ℕ) → recordNumber plan ≡ 0 → sampleNumber sample ≡ 0 → sizeNumber width rows ≡ 0 → stateNumber (firstState plan sample width rows) ≡ 0
+unfolding stateNumber
+state-first plan sample width rows a b c =
+    state-none (recordNumber plan) (sampleNumber sample) (sizeNumber width rows) (ltb (rows + planAhead plan) 0) a b c (le-ltb (rows + planAhead plan) 0 (omega arith))
+
+-- After an accepted start the state breaks no rule, the records are sound, and for every picture the memory holds what no step leaves, whatever its cells hold.
+pub record First {A : Type 0} (K : Samples A) (plan : Plan) (width : ℕ) (starts lengths : List ℕ) (S : State) : Type 0 where
+  pub judged : stateNumber S ≡ 0
+  pub sound : allSound width (used plan) starts lengths ≡ true
+  pub holds : (values : List A) (positions : List ℕ) (p : Picture A) → Holds K (used plan) width p 0 (record { values = values; positions = positions; starts = starts; lengths = lengths })
+
+pub start-first : {A : Type 0} (K : Samples A) (plan : Plan) (sample width rows cells : ℕ) (starts lengths starts′ lengths′ : List ℕ) (r : Started)
+    → Start (startNumber plan sample width rows cells (min (length starts) (length lengths))) (firstState plan sample width rows) (recordsNeeded plan width) starts lengths starts′ lengths′ r
+    → r .number ≡ 0 → First K plan width starts′ lengths′ (r .state)
+start-first K plan sample width rows cells starts lengths starts′ lengths′ r h z =
+    let e = sym (h .told) ∙ z in
+    let (a, b, c, d) = start-accepted plan sample width rows cells (min (length starts) (length lengths)) e in
+    let (_, m) = memory-accepted plan width cells (min (length starts) (length lengths)) d in
+    let (s, f, g) = h .accepted e in
+    let n : length (used plan) ≤ plan .count = rw length-take (omega arith) in
+    let few : length (used plan) * width ≤ recordsNeeded plan width = mul-le-mul-right width n in
+    let zs : Zeros (length (used plan) * width) starts′ = λ i k. ap (λ l. getD l i 0) f ∙ cleared-at (recordsNeeded plan width) starts i (omega arith) in
+    let zl : Zeros (length (used plan) * width) lengths′ = λ i k. ap (λ l. getD l i 0) g ∙ cleared-at (recordsNeeded plan width) lengths i (omega arith) in
+    let ls : length starts′ ≡ length starts = ap length f ∙ cleared-long (recordsNeeded plan width) starts (omega arith) in
+    let ll : length lengths′ ≡ length lengths = ap length g ∙ cleared-long (recordsNeeded plan width) lengths (omega arith) in
+    record {
+      judged = ap stateNumber s ∙ state-first plan sample width rows a b c;
+      sound = sound-zeros (used plan) width starts′ lengths′ zs zl (omega arith) (omega arith);
+      holds = λ values positions p. holds-first K (used plan) width p 0 refl (record { values = values; positions = positions; starts = starts′; lengths = lengths′ }) zl;
+    }
+
+-- ---- a start of a plan in numbers
+
+module _ (count : ℕ) (bytes : List ℕ) (sample width rows cells records : ℕ) where
+  abbrev plan-of : Plan
+  plan-of = planOf (stagesFrom count bytes)
+
+  abbrev numbered : ℕ
+  numbered = numbersNumber count bytes sample width rows cells records
+
+  numbers-plan : (planNumber count bytes ≡ 0 → ⊥) → planNumber count bytes ≡ numbered
+  unfolding numbersNumber
+  numbers-plan h = sym (first-found (planNumber count bytes) (after-plan plan-of sample width rows cells records) h)
+
+  numbers-read : numbered ≡ 0 → planNumber count bytes ≡ 0
+  unfolding numbersNumber
+  numbers-read e = first-zero (planNumber count bytes) (after-plan plan-of sample width rows cells records) e .0
+
+  numbers-rest : planNumber count bytes ≡ 0 → startNumber plan-of sample width rows cells records ≡ numbered
+  unfolding startNumber numbersNumber
+  numbers-rest e =
+      first-skip (recordNumber plan-of) (after-plan plan-of sample width rows cells records) (judged-reading count bytes e)
+      ∙ sym (first-skip (planNumber count bytes) (after-plan plan-of sample width rows cells records) e)
+
+  module _ (R : Reading) (e : R ≡ planRead count bytes) where
+    read-number : R .number ≡ planNumber count bytes
+    unfolding planRead
+    read-number = ap (λ r. r .number) e
+
+    read-plan : planNumber count bytes ≡ 0 → R .plan ≡ plan-of
+    unfolding planRead
+    read-plan m = ap (λ r. r .plan) e ∙ simp (eq-eqb (planNumber count bytes) 0 m)
+
+    pub numbers-refused : (needed : ℕ) (first : State) (starts lengths : List ℕ) (r : Started) → (R .number ≡ 0 → ⊥) → r .number ≡ R .number → r .state ≡ noState
+        → Start numbered first needed starts lengths starts lengths r
+    numbers-refused needed first starts lengths r h q s =
+        start-refused numbered needed first starts lengths (R .number) r (read-number ∙ numbers-plan (λ z. h (read-number ∙ z))) h q s
+
+    pub numbers-went : (starts lengths starts′ lengths′ : List ℕ) (r : Started) → R .number ≡ 0
+        → Start (startNumber (R .plan) sample width rows cells records) (firstState (R .plan) sample width rows) (recordsNeeded (R .plan) width) starts lengths starts′ lengths′ r
+        → Start numbered (firstState plan-of sample width rows) (recordsNeeded plan-of width) starts lengths starts′ lengths′ r
+    numbers-went starts lengths starts′ lengths′ r z h =
+        let m = sym read-number ∙ z in
+        let g = subst (λ (p : Plan). Start (startNumber p sample width rows cells records) (firstState p sample width rows) (recordsNeeded p width) starts lengths starts′ lengths′ r) (read-plan m) h in
+        subst (λ (n : ℕ). Start n (firstState plan-of sample width rows) (recordsNeeded plan-of width) starts lengths starts′ lengths′ r) (numbers-rest m) g
+
+-- the same of a start in numbers
+pub numbers-first : {A : Type 0} (K : Samples A) (count : ℕ) (bytes : List ℕ) (sample width rows cells : ℕ) (starts lengths starts′ lengths′ : List ℕ) (r : Started)
+    → Start (numbersNumber count bytes sample width rows cells (min (length starts) (length lengths))) (firstState (planOf (stagesFrom count bytes)) sample width rows) (recordsNeeded (planOf (stagesFrom count bytes)) width) starts lengths starts′ lengths′ r
+    → r .number ≡ 0 → First K (planOf (stagesFrom count bytes)) width starts′ lengths′ (r .state)
+numbers-first K count bytes sample width rows cells starts lengths starts′ lengths′ r h z =
+    let plan = planOf (stagesFrom count bytes) in
+    let e = numbers-rest count bytes sample width rows cells (min (length starts) (length lengths)) (numbers-read count bytes sample width rows cells (min (length starts) (length lengths)) (sym (h .told) ∙ z)) in
+    let g = subst (λ (n : ℕ). Start n (firstState plan sample width rows) (recordsNeeded plan width) starts lengths starts′ lengths′ r) (sym e) h in
+    start-first K plan sample width rows cells starts lengths starts′ lengths′ r g z

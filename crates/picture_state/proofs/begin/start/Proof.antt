@@ -1,0 +1,58 @@
+-- `start` meets its contract: judged, and then the records that are needed are cleared.
+use mathlib.Core.Path.{sym, _∙_}
+use native.Mathlib.Omega.{arith}
+use Rattle.picture_state.proofs.Starting.{start-fits, start-refused, start-went}
+use borrow.Author.Needs.{needs}
+use Rattle.picture_state.proofs.begin.start.Statement.{statement}
+use Rattle.picture_state.proofs.begin.start.Tie as tie
+
+shorter-requires : tie.Need-shorter-requires
+shorter-requires c κs = search needs
+
+judge-start-requires : tie.Need-judge-start-requires
+judge-start-requires c κs = search needs
+
+not-started-requires : tie.Need-not-started-requires
+not-started-requires c κs = search needs
+
+returns : tie.Need-returns
+returns c =
+    start-refused _ _ _ _ _ _ _ (rw (c .before .before .before .shorter .ensures) at (c .before .before .judge-start .ensures)) (c .before .if1 .taken) (c .not-started .ensures .0) (c .not-started .ensures .1)
+
+records-requires : tie.Need-records-requires
+records-requires c κs = let (f, w, _) = start-fits _ _ _ _ _ _ (sym (c .before .judge-start .ensures) ∙ c .if1 .left) in (f, w)
+
+clear-requires : tie.Need-clear-requires
+clear-requires c κs = let f = start-fits _ _ _ _ _ _ (sym (c .before .before .before .judge-start .ensures) ∙ c .before .before .if1 .left) in omega (arith, f .2, c .before .records .ensures, c .before .before .before .before .shorter .ensures)
+
+clear-requires-2 : tie.Need-clear-requires-2
+clear-requires-2 c κs = let f = start-fits _ _ _ _ _ _ (sym (c .before .before .before .before .before .before .before .judge-start .ensures) ∙ c .before .before .before .before .before .before .if1 .left) in omega (arith, f .2, c .before .before .before .before .before .records .ensures, c .before .before .before .before .before .before .before .before .shorter .ensures)
+
+first-state-requires : tie.Need-first-state-requires
+first-state-requires c κs = search needs
+
+same-length : tie.Need-same-length
+same-length c = search needs
+
+same-length-2 : tie.Need-same-length-2
+same-length-2 c = search needs
+
+returns-2 : tie.Need-returns-2
+returns-2 c =
+    start-went _ _ _ _ _ _ _ _ _ (sym (rw (c .before .before .before .before .before .before .before .before .before .before .before .before .shorter .ensures) at (c .before .before .before .before .before .before .before .before .before .before .before .judge-start .ensures)) ∙ c .before .before .before .before .before .before .before .before .before .before .if1 .left) (c .before .before .before .before .before .before .before .before .before .records .ensures) (c .first-state .ensures) (c .before .before .before .before .before .before .before .clear .ensures) (c .before .before .before .clear2 .ensures)
+
+pub start-spec : {M : Type 1} → statement M
+start-spec =
+    tie.close
+    (tie.spec
+    shorter-requires
+    judge-start-requires
+    not-started-requires
+    returns
+    records-requires
+    clear-requires
+    clear-requires-2
+    first-state-requires
+    same-length
+    same-length-2
+    returns-2)

@@ -1,0 +1,43 @@
+-- `judge_row` meets its contract: each way out is the first number that is not 0.
+use mathlib.Core.Path.{sym, _∙_}
+use Rattle.picture_state.proofs.Numbers.{offer-lent, offer-nine, offer-row, offer-out, offer-all}
+use borrow.Author.Needs.{needs}
+use Rattle.picture_state.proofs.judging.judge_row.Statement.{statement}
+use Rattle.picture_state.proofs.judging.judge_row.Tie as tie
+
+shorter-requires : tie.Need-shorter-requires
+shorter-requires c κs = search needs
+
+shorter-requires-2 : tie.Need-shorter-requires-2
+shorter-requires-2 c κs = search needs
+
+judge-requires : tie.Need-judge-requires
+judge-requires c κs = search needs
+
+returns : tie.Need-returns
+returns c = offer-lent _ _ _ _ _ _ _ _ _ (rw (c .before .before .before .shorter .ensures, c .before .before .shorter2 .ensures) at (c .before .judge .ensures)) (c .if1 .taken)
+
+returns-2 : tie.Need-returns-2
+returns-2 c = offer-nine _ _ _ _ _ _ _ _ (sym (rw (c .before .before .before .before .before .shorter .ensures, c .before .before .before .before .shorter2 .ensures) at (c .before .before .before .judge .ensures)) ∙ c .before .before .if1 .left) (c .if2 .taken)
+
+returns-3 : tie.Need-returns-3
+returns-3 c = offer-row _ _ _ _ _ _ _ _ (sym (rw (c .before .before .before .before .before .before .before .shorter .ensures, c .before .before .before .before .before .before .shorter2 .ensures) at (c .before .before .before .before .before .judge .ensures)) ∙ c .before .before .before .before .if1 .left) (c .before .before .if2 .left) (c .if3 .taken)
+
+returns-4 : tie.Need-returns-4
+returns-4 c = offer-out _ _ _ _ _ _ _ _ (sym (rw (c .before .before .before .before .before .before .before .before .before .shorter .ensures, c .before .before .before .before .before .before .before .before .shorter2 .ensures) at (c .before .before .before .before .before .before .before .judge .ensures)) ∙ c .before .before .before .before .before .before .if1 .left) (c .before .before .before .before .if2 .left) (c .before .before .if3 .left) (c .if4 .taken)
+
+returns-5 : tie.Need-returns-5
+returns-5 c = offer-all _ _ _ _ _ _ _ _ (sym (rw (c .before .before .before .before .before .before .before .before .before .shorter .ensures, c .before .before .before .before .before .before .before .before .shorter2 .ensures) at (c .before .before .before .before .before .before .before .judge .ensures)) ∙ c .before .before .before .before .before .before .if1 .left) (c .before .before .before .before .if2 .left) (c .before .before .if3 .left) (c .if4 .left)
+
+pub judge-row-spec : {M : Type 1} → statement M
+judge-row-spec =
+    tie.close
+    (tie.spec
+    shorter-requires
+    shorter-requires-2
+    judge-requires
+    returns
+    returns-2
+    returns-3
+    returns-4
+    returns-5)

@@ -1,0 +1,60 @@
+-- Each way out is a test of the definition.
+use native.Mathlib.Omega.{arith}
+use mathlib.Core.Path.{sym, _∙_}
+use borrow.Author.Tests.{lt-ltb, le-ltb, eq-eqb, ne-eqb}
+use Rattle.plan.proofs.Numbers.{size-accepted}
+use Rattle.picture_state.specs.Numbers.{stateNumber}
+use Rattle.picture_state.proofs.Numbers.{plan-accepted, ahead-few}
+use borrow.Author.Needs.{needs}
+use Rattle.picture_state.proofs.judging.judge_state.Statement.{statement}
+use Rattle.picture_state.proofs.judging.judge_state.Tie as tie
+
+judge-requires : tie.Need-judge-requires
+judge-requires c κs = search needs
+
+returns : tie.Need-returns
+unfolding stateNumber
+returns c = simp (← c .before .judge .ensures, ne-eqb _ 0 (c .if1 .taken))
+
+judge-sample-requires : tie.Need-judge-sample-requires
+judge-sample-requires c κs = search needs
+
+returns-2 : tie.Need-returns-2
+unfolding stateNumber
+returns-2 c = simp (← c .before .before .before .judge .ensures, eq-eqb _ 0 (c .before .before .if1 .left), ← c .before .judge-sample .ensures, ne-eqb _ 0 (c .if2 .taken))
+
+judge-size-requires : tie.Need-judge-size-requires
+judge-size-requires c κs = search needs
+
+returns-3 : tie.Need-returns-3
+unfolding stateNumber
+returns-3 c = simp (← c .before .before .before .before .before .judge .ensures, eq-eqb _ 0 (c .before .before .before .before .if1 .left), ← c .before .before .before .judge-sample .ensures, eq-eqb _ 0 (c .before .before .if2 .left), ← c .before .judge-size .ensures, ne-eqb _ 0 (c .if3 .taken))
+
+look-ahead-requires : tie.Need-look-ahead-requires
+look-ahead-requires c κs = plan-accepted _ (sym (c .before .before .before .before .before .judge .ensures) ∙ c .before .before .before .before .if1 .left) .few
+
+add-if4 : tie.Need-add-if4
+add-if4 c = omega (arith, c .before .look-ahead .ensures, ahead-few (c .before .before .before .before .before .before .before .before .before .args .state .plan) (plan-accepted _ (sym (c .before .before .before .before .before .before .before .judge .ensures) ∙ c .before .before .before .before .before .before .if1 .left)), size-accepted (c .before .before .before .before .before .before .before .before .before .args .state .width) (c .before .before .before .before .before .before .before .before .before .args .state .rows) (sym (c .before .before .before .judge-size .ensures) ∙ c .before .before .if3 .left))
+
+returns-4 : tie.Need-returns-4
+unfolding stateNumber
+returns-4 c = simp (← c .before .before .before .before .before .before .before .before .before .judge .ensures, eq-eqb _ 0 (c .before .before .before .before .before .before .before .before .if1 .left), ← c .before .before .before .before .before .before .before .judge-sample .ensures, eq-eqb _ 0 (c .before .before .before .before .before .before .if2 .left), ← c .before .before .before .before .before .judge-size .ensures, eq-eqb _ 0 (c .before .before .before .before .if3 .left), ← c .before .before .before .look-ahead .ensures, lt-ltb _ _ (c .if4 .taken))
+
+returns-5 : tie.Need-returns-5
+unfolding stateNumber
+returns-5 c = simp (← c .before .before .before .before .before .before .before .before .before .judge .ensures, eq-eqb _ 0 (c .before .before .before .before .before .before .before .before .if1 .left), ← c .before .before .before .before .before .before .before .judge-sample .ensures, eq-eqb _ 0 (c .before .before .before .before .before .before .if2 .left), ← c .before .before .before .before .before .judge-size .ensures, eq-eqb _ 0 (c .before .before .before .before .if3 .left), ← c .before .before .before .look-ahead .ensures, le-ltb _ _ (c .if4 .left))
+
+pub judge-state-spec : {M : Type 1} → statement M
+judge-state-spec =
+    tie.close
+    (tie.spec
+    judge-requires
+    returns
+    judge-sample-requires
+    returns-2
+    judge-size-requires
+    returns-3
+    look-ahead-requires
+    add-if4
+    returns-4
+    returns-5)

@@ -1,0 +1,122 @@
+// Starting a run: the state before the first step, and the column records of empty queues.
+
+ghost use mathlib.Core.Path.{_≡_};
+ghost use Prim.Native.Nat.{_≤_, min};
+ghost use lib.ListN.{length};
+ghost use Rattle.plan.specs.Plan.{planOf, stagesFrom, recordsNeeded};
+ghost use Rattle.picture_state.specs.Numbers.{startNumber};
+ghost use Rattle.picture_state.specs.Start.{Start, firstState, noState, cleared, numbersNumber};
+use crate::Started;
+use crate::State;
+use crate::judging::judge_memory;
+use crate::judging::shorter;
+use plan::Plan;
+
+// The number of a start: 1, or stage by stage 3; 5, 4, 6.
+fn judge_start(
+    plan: Plan,
+    sample: u8,
+    width: usize,
+    rows: usize,
+    cells: usize,
+    records: usize,
+) -> u8
+    ensures { λ r. ⌜ r ≡ startNumber plan sample width rows cells records ⌝ }
+{
+    let number = plan::judge(plan);
+    if number != 0 {
+        return number;
+    }
+    let number = plan::judge_sample(sample);
+    if number != 0 {
+        return number;
+    }
+    let number = plan::judge_size(width, rows);
+    if number != 0 {
+        return number;
+    }
+    judge_memory(plan, width, cells, records)
+}
+
+// The first n bytes become 0.
+fn clear(n: usize, bytes: &mut [u8])
+    requires { ⌜ n ≤ length (now bytes) ⌝ }
+    ensures { λ _. ⌜ now (bytes .exit) ≡ cleared n (now (bytes .entry)) ⌝ }
+{
+    let mut i = 0;
+    while i < n {
+        bytes[i] = 0;
+        i += 1;
+    }
+}
+
+fn first_state(plan: Plan, sample: u8, width: usize, rows: usize) -> State
+    ensures { λ r. ⌜ r ≡ firstState plan sample width rows ⌝ }
+{
+    State {
+        plan: plan,
+        sample: sample,
+        width: width,
+        rows: rows,
+        step: 0,
+    }
+}
+
+// The answer of a refused start.
+fn not_started(number: u8) -> Started
+    ensures { λ r. ⌜ (r .number ≡ number) × (r .state ≡ noState) ⌝ }
+{
+    let none = plan::empty();
+    Started {
+        number: number,
+        state: first_state(none, 0, 0, 0),
+    }
+}
+
+// A run of a plan over a picture of that size, with so many cells lent: the state before the first step, and all queues empty.
+pub fn start(
+    plan: Plan,
+    sample: u8,
+    width: usize,
+    rows: usize,
+    cells: usize,
+    starts: &mut [u8],
+    lengths: &mut [u8],
+) -> Started
+    ensures { λ r. ⌜ Start (startNumber plan sample width rows cells (min (length (now (starts .entry))) (length (now (lengths .entry))))) (firstState plan sample width rows) (recordsNeeded plan width) (now (starts .entry)) (now (lengths .entry)) (now (starts .exit)) (now (lengths .exit)) r ⌝ }
+{
+    let lent = shorter(starts.len(), lengths.len());
+    let number = judge_start(plan, sample, width, rows, cells, lent);
+    if number != 0 {
+        return not_started(number);
+    }
+    let records = plan::records(plan, width);
+    clear(records, starts);
+    clear(records, lengths);
+    Started {
+        number: 0,
+        state: first_state(plan, sample, width, rows),
+    }
+}
+
+// The same of a plan in numbers: a count and five bytes a stage, of which those after the last stage's are not looked at. Refused 1; then stage by stage 2, 3; then 5, 4, 6.
+pub fn start_numbers(
+    count: u8,
+    stages: &[u8; 80],
+    sample: u8,
+    width: usize,
+    rows: usize,
+    cells: usize,
+    starts: &mut [u8],
+    lengths: &mut [u8],
+) -> Started
+    ensures { λ r. ⌜ Start (numbersNumber count (now (stages .entry)) sample width rows cells (min (length (now (starts .entry))) (length (now (lengths .entry))))) (firstState (planOf (stagesFrom count (now (stages .entry)))) sample width rows) (recordsNeeded (planOf (stagesFrom count (now (stages .entry)))) width) (now (starts .entry)) (now (lengths .entry)) (now (starts .exit)) (now (lengths .exit)) r ⌝ }
+{
+    let reading = plan::read(count, stages);
+    let number = reading.number;
+    if number != 0 {
+        return not_started(number);
+    }
+    let plan = reading.plan;
+    start(plan, sample, width, rows, cells, starts, lengths)
+}

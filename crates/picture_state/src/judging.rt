@@ -1,0 +1,172 @@
+// Judging: the number of each call on a state, 0 where nothing is wrong.
+
+ghost use mathlib.Core.Path.{_≡_};
+ghost use Prim.Native.Nat.{_≤_, min};
+ghost use lib.ListN.{length};
+ghost use Rattle.plan.specs.Plan.{used, recordNumber, recordsNeeded};
+ghost use Rattle.chain.specs.Run.{allSound};
+ghost use Rattle.picture_state.specs.Numbers.{memoryNumber, stateNumber, sharedNumber, offerNumber, drainNumber};
+use crate::State;
+use plan::Plan;
+
+// 0, or 6: for the cells and the records that are lent.
+pub fn judge_memory(plan: Plan, width: usize, cells: usize, records: usize) -> u8
+    requires { ⌜ (plan .count ≤ 16) × (width ≤ 4096) ⌝ }
+    ensures { λ r. ⌜ r ≡ memoryNumber plan width cells records ⌝ }
+{
+    if cells < plan::cells(plan, width) {
+        return 6;
+    }
+    if records < plan::records(plan, width) {
+        return 6;
+    }
+    0
+}
+
+// 0, or 12: for the state's own fields.
+fn judge_state(state: State) -> u8
+    ensures { λ r. ⌜ r ≡ stateNumber state ⌝ }
+{
+    let plan = state.plan;
+    if plan::judge(plan) != 0 {
+        return 12;
+    }
+    if plan::judge_sample(state.sample) != 0 {
+        return 12;
+    }
+    if plan::judge_size(state.width, state.rows) != 0 {
+        return 12;
+    }
+    if state.rows + plan::look_ahead(plan) < state.step {
+        return 12;
+    }
+    0
+}
+
+// Whether all column records of all stages are sound.
+fn records_sound<'a>(plan: Plan, width: usize, starts: &'a [u8], lengths: &'a [u8]) -> bool
+    requires { ⌜ (recordNumber plan ≡ 0) × (width ≤ 4096) × (recordsNeeded plan width ≤ length (now starts)) × (recordsNeeded plan width ≤ length (now lengths)) ⌝ }
+    ensures { λ r. ⌜ r ≡ allSound width (used plan) (now (starts .entry)) (now (lengths .entry)) ⌝ }
+{
+    let count = plan.count;
+    let mut good = true;
+    let mut lo = 0;
+    let mut i = 0;
+    while i < count {
+        let stage = plan.stages[i];
+        let hi = lo + width;
+        good = good & columns::sound(plan::size_of(stage), &starts[lo..hi], &lengths[lo..hi]);
+        lo = hi;
+        i += 1;
+    }
+    good
+}
+
+// 0, or what is wrong with the state, its sample kind, the memory or the column records: 12, 5, 6, 12.
+pub fn judge<'a>(
+    kind: u8,
+    state: State,
+    cells: usize,
+    records: usize,
+    starts: &'a [u8],
+    lengths: &'a [u8],
+) -> u8
+    requires { ⌜ (records ≤ length (now starts)) × (records ≤ length (now lengths)) ⌝ }
+    ensures { λ r. ⌜ r ≡ sharedNumber kind state cells records (now (starts .entry)) (now (lengths .entry)) ⌝ }
+{
+    let number = judge_state(state);
+    if number != 0 {
+        return number;
+    }
+    if state.sample != kind {
+        return 5;
+    }
+    let plan = state.plan;
+    let width = state.width;
+    let number = judge_memory(plan, width, cells, records);
+    if number != 0 {
+        return number;
+    }
+    if records_sound(plan, width, starts, lengths) {
+        return 0;
+    }
+    12
+}
+
+pub fn shorter(a: usize, b: usize) -> usize
+    ensures { λ r. ⌜ r ≡ min a b ⌝ }
+{
+    if a < b { a } else { b }
+}
+
+// The number of a row call, but for 8: a row and an output row of these lengths, and so many values and positions.
+pub fn judge_row<'a>(
+    kind: u8,
+    state: State,
+    row: usize,
+    out: usize,
+    values: usize,
+    positions: usize,
+    starts: &'a [u8],
+    lengths: &'a [u8],
+) -> u8
+    ensures { λ r. ⌜ r ≡ offerNumber kind state row out values positions (now (starts .entry)) (now (lengths .entry)) ⌝ }
+{
+    let number = judge(
+        kind,
+        state,
+        shorter(values, positions),
+        shorter(starts.len(), lengths.len()),
+        starts,
+        lengths,
+    );
+    if number != 0 {
+        return number;
+    }
+    if state.rows <= state.step {
+        return 9;
+    }
+    if row != state.width {
+        return 7;
+    }
+    if out != state.width {
+        return 7;
+    }
+    0
+}
+
+// The number of a drain.
+pub fn judge_drain<'a>(
+    kind: u8,
+    state: State,
+    out: usize,
+    values: usize,
+    positions: usize,
+    starts: &'a [u8],
+    lengths: &'a [u8],
+) -> u8
+    ensures { λ r. ⌜ r ≡ drainNumber kind state out values positions (now (starts .entry)) (now (lengths .entry)) ⌝ }
+{
+    let number = judge(
+        kind,
+        state,
+        shorter(values, positions),
+        shorter(starts.len(), lengths.len()),
+        starts,
+        lengths,
+    );
+    if number != 0 {
+        return number;
+    }
+    if state.step < state.rows {
+        return 10;
+    }
+    let plan = state.plan;
+    if state.rows + plan::look_ahead(plan) <= state.step {
+        return 10;
+    }
+    if out != state.width {
+        return 7;
+    }
+    0
+}

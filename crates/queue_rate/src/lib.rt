@@ -1,0 +1,127 @@
+// Queues of floats.
+
+ghost use mathlib.Core.Path.{_≡_};
+ghost use Prim.Native.Nat.{ℕ, _+_, _-_, _≤_, _<_};
+ghost use mathlib.Core.List.{List};
+ghost use lib.ListN.{length, getD};
+ghost use lib.Ieee.{nan};
+ghost use Rattle.morph.specs.Step.{popped};
+ghost use Rattle.morph.specs.Ring.{wrap, entries};
+ghost use Rattle.sample.specs.Samples.{rates};
+ghost use Rattle.queue.specs.Queue.{Roomed, Pushed};
+use morph::Kind;
+use queue::Ends;
+use queue::Kept;
+use queue::Room;
+
+// A queued value with its position.
+pub struct Entry {
+    pub value: f32,
+    pub position: u16,
+}
+
+// The entries from the tail that v equals or passes go; `behind` is the place behind the last. The place is carried along, and not reckoned from the start
+// for every entry: a step's time is mostly the wait for the value to compare with.
+pub fn pop(kind: Kind, values: &[f32], start: usize, count: usize, behind: usize, v: f32) -> Kept
+    requires { ⌜ (start < length (now values)) × (count ≤ length (now values)) × (length (now values) ≤ 63) × (behind ≡ wrap (length (now values)) (start + count)) ⌝ }
+    ensures { λ r. ⌜ ((ps : List ℕ) → count - r .count ≡ popped (rates .passes kind v) (entries nan (length (now (values .entry))) start count (now (values .entry)) ps)) × (r .count ≤ count) × (r .behind ≡ wrap (length (now (values .entry))) (start + r .count)) ⌝ }
+{
+    let places = values.len();
+    let mut left = count;
+    let mut at = behind;
+    while 0 < left {
+        let i = queue::previous(at, places);
+        if !sample::rate::passes(kind, v, values[i]) {
+            return Kept {
+                count: left,
+                behind: at,
+            };
+        }
+        at = i;
+        left -= 1;
+    }
+    Kept {
+        count: left,
+        behind: at,
+    }
+}
+
+// Room for an entry, which is read at the step of its position; `behind` is the place behind the last.
+pub fn room<'a>(
+    kind: Kind,
+    window: usize,
+    values: &'a [f32],
+    positions: &'a [u16],
+    start: usize,
+    count: usize,
+    behind: usize,
+    e: Entry,
+) -> Room
+    requires { ⌜ (start < length (now values)) × (count ≤ window) × (0 < window) × (window ≤ length (now values)) × (length (now values) ≤ 63) × (length (now positions) ≡ length (now values)) × (behind ≡ wrap (length (now values)) (start + count)) ⌝ }
+    ensures { λ r. ⌜ Roomed rates kind window (e .position) (e .value) (now (values .entry)) (now (positions .entry)) start count r ⌝ }
+{
+    let places = values.len();
+    let kept = pop(kind, values, start, count, behind, e.value);
+    let left = kept.count;
+    let comparisons = count - left + queue::any(left);
+    let gone = queue::goes(positions, start, left, window, queue::wide(e.position));
+    if gone == 0 {
+        return Room {
+            start: start,
+            count: left,
+            at: kept.behind,
+            comparisons: comparisons,
+        };
+    }
+    Room {
+        start: queue::next(start, places),
+        count: left - 1,
+        at: kept.behind,
+        comparisons: comparisons,
+    }
+}
+
+// The queue reads an entry, at the step of its position; the window has as many places as there are.
+pub fn push(
+    kind: Kind,
+    values: &mut [f32],
+    positions: &mut [u16],
+    start: usize,
+    count: usize,
+    e: Entry,
+) -> Ends
+    requires { ⌜ (start < length (now values)) × (count ≤ length (now values)) × (length (now values) ≤ 63) × (length (now positions) ≡ length (now values)) ⌝ }
+    ensures { λ r. ⌜ Pushed rates kind (e .position) (e .value) (now (values .entry)) (now (positions .entry)) start count (now (values .exit)) (now (positions .exit)) r ⌝ }
+{
+    let window = values.len();
+    let behind = queue::slot(start, count, window);
+    let r = room(
+        kind,
+        window,
+        &values[..],
+        &positions[..],
+        start,
+        count,
+        behind,
+        e,
+    );
+    let at = r.at;
+    values[at] = e.value;
+    positions[at] = e.position;
+    Ends {
+        start: r.start,
+        count: r.count + 1,
+        comparisons: r.comparisons,
+    }
+}
+
+// The entry in a cell: the oldest stands in the cell of the queue's start.
+pub fn cell<'a>(values: &'a [f32], positions: &'a [u16], at: usize) -> Entry
+    requires { ⌜ (at < length (now values)) × (at < length (now positions)) ⌝ }
+    ensures { λ r. ⌜ (r .value ≡ getD (now (values .entry)) at nan) × (r .position ≡ getD (now (positions .entry)) at 0) ⌝ }
+{
+    Entry {
+        value: values[at],
+        position: positions[at],
+    }
+}

@@ -1,0 +1,26 @@
+-- `answer` meets its contract, by the test that led to each end.
+use borrow.Author.Needs.{needs}
+use borrow.Author.Tests.{le-leb, lt-leb}
+use Rattle.row.specs.Row.{answered}
+use Rattle.row_rate.proofs.answer.Statement.{statement}
+use Rattle.row_rate.proofs.answer.Tie as tie
+
+mul-row : tie.Need-mul-row
+mul-row c = search needs
+
+slice-write-row : tie.Need-slice-write-row
+slice-write-row c = search needs
+
+same-length : tie.Need-same-length
+same-length c = search needs
+
+returns : tie.Need-returns
+unfolding answered
+returns c = simp (le-leb _ _ (c .if1 .taken))
+
+returns-2 : tie.Need-returns-2
+unfolding answered
+returns-2 c = simp (lt-leb _ _ (c .if1 .left))
+
+pub answer-spec : {M : Type 1} → statement M
+answer-spec = tie.close (tie.spec mul-row slice-write-row same-length returns returns-2)

@@ -1,0 +1,136 @@
+// Rows of floats.
+
+ghost use mathlib.Core.Path.{_≡_};
+ghost use Prim.Native.Nat.{_+_, _≤_, _<_};
+ghost use lib.ListN.{length, replicate};
+ghost use Rattle.sample.specs.Samples.{rates};
+ghost use Rattle.row.specs.Row.{answered, Across, Read, Drained};
+use morph::Kind;
+use queue_rate::Entry;
+
+// The row queue: its own 63 places, where it starts, and how many entries it has.
+pub struct RowQueue {
+    pub values: [f32; 63],
+    pub positions: [u16; 63],
+    pub start: usize,
+    pub count: usize,
+}
+
+// What reading a whole row leaves: the queue, and the comparisons made.
+struct Passed {
+    queue: RowQueue,
+    comparisons: usize,
+}
+
+// An empty queue.
+pub fn empty() -> RowQueue
+    ensures { λ r. ⌜ (r .values ≡ replicate 63 (rates .zero)) × (r .positions ≡ replicate 63 0) × (r .start ≡ 0) × (r .count ≡ 0) ⌝ }
+{
+    RowQueue {
+        values: [0.0; 63],
+        positions: [0; 63],
+        start: 0,
+        count: 0,
+    }
+}
+
+// The answer v of step t is put in its place, if step t has one.
+fn answer(row: &mut [f32], ahead: usize, t: usize, v: f32)
+    requires { ⌜ t < length (now row) + ahead ⌝ }
+    ensures { λ _. ⌜ now (row .exit) ≡ answered ahead t v (now (row .entry)) ⌝ }
+{
+    if ahead <= t {
+        row[t - ahead] = v;
+    }
+}
+
+// The steps that read, into a queue that starts empty in the room given: it is written where it lies, and a row's answers go where its pixels have been read.
+fn read_row(kind: Kind, room: RowQueue, back: usize, ahead: usize, row: &mut [f32]) -> Passed
+    requires { ⌜ (back ≤ 31) × (ahead ≤ 31) × (length (now row) ≤ 65535) ⌝ }
+    ensures { λ r. ⌜ Read rates kind back ahead (now (row .entry)) (length (now (row .entry))) (now (row .exit)) (r .queue .values) (r .queue .positions) (r .queue .start) (r .queue .count) (r .comparisons) ⌝ }
+{
+    let window = back + ahead + 1;
+    let n = row.len();
+    let mut q = room;
+    let mut start = 0;
+    let mut count = 0;
+    let mut behind = 0;
+    let mut comparisons = 0;
+    let mut t = 0;
+    while t < n {
+        let e = Entry {
+            value: row[t],
+            position: row::position(t),
+        };
+        let r = queue_rate::room(
+            kind,
+            window,
+            &q.values,
+            &q.positions,
+            start,
+            count,
+            behind,
+            e,
+        );
+        let at = r.at;
+        q.values[at] = e.value;
+        q.positions[at] = e.position;
+        start = r.start;
+        count = r.count + 1;
+        behind = queue::next(at, 63);
+        comparisons += r.comparisons;
+        let front = queue_rate::cell(&q.values, &q.positions, start);
+        answer(row, ahead, t, front.value);
+        t += 1;
+    }
+    q.start = start;
+    q.count = count;
+    Passed {
+        queue: q,
+        comparisons: comparisons,
+    }
+}
+
+// The steps that drain, whatever row the queue and the answers so far are from.
+fn drain_row(q: RowQueue, back: usize, ahead: usize, row: &mut [f32])
+    requires { ⌜ (back ≤ 31) × (ahead ≤ 31) × (length (now row) ≤ 65535) × (q .start < 63) × (q .count ≤ back + ahead + 1) ⌝ }
+    ensures { λ _. ⌜ Drained rates back ahead (now (row .entry)) (q .values) (q .positions) (q .start) (q .count) (now (row .exit)) ⌝ }
+{
+    let window = back + ahead + 1;
+    let n = row.len();
+    let end = n + ahead;
+    let mut start = q.start;
+    let mut count = q.count;
+    let mut t = n;
+    while t < end {
+        let gone = queue::goes(&q.positions, start, count, window, t);
+        start = queue::slot(start, gone, 63);
+        count -= gone;
+        let front = queue_rate::cell(&q.values, &q.positions, start);
+        answer(row, ahead, t, front.value);
+        t += 1;
+    }
+}
+
+// All pixels are read. The kind is chosen here once, by a literal, so that no loop has to ask for it.
+fn read_all(kind: Kind, back: usize, ahead: usize, row: &mut [f32]) -> Passed
+    requires { ⌜ (back ≤ 31) × (ahead ≤ 31) × (length (now row) ≤ 65535) ⌝ }
+    ensures { λ r. ⌜ Read rates kind back ahead (now (row .entry)) (length (now (row .entry))) (now (row .exit)) (r .queue .values) (r .queue .positions) (r .queue .start) (r .queue .count) (r .comparisons) ⌝ }
+{
+    let q = empty();
+    match kind {
+        Kind::Erosion => read_row(Kind::Erosion, q, back, ahead, row),
+        Kind::Dilation => read_row(Kind::Dilation, q, back, ahead, row),
+    }
+}
+
+// A row filtered in place; the comparisons made.
+pub fn across(kind: Kind, back: usize, ahead: usize, row: &mut [f32]) -> usize
+    requires { ⌜ (back ≤ 31) × (ahead ≤ 31) × (length (now row) ≤ 65535) ⌝ }
+    ensures { λ r. ⌜ Across rates kind back ahead (now (row .entry)) (now (row .exit)) r ⌝ }
+{
+    let passed = read_all(kind, back, ahead, row);
+    let q = passed.queue;
+    drain_row(q, back, ahead, row);
+    passed.comparisons
+}

@@ -1,0 +1,64 @@
+-- `move_on` meets its contract: a row is taken, or the columns age.
+use Rattle.sample.specs.Samples.{greys}
+use Rattle.stage.proofs.Stage.{lent-as, taken-moved, drained-moved}
+use borrow.Author.Needs.{needs}
+use Rattle.stage_grey.proofs.move_on.Statement.{statement}
+use Rattle.stage_grey.proofs.move_on.Tie as tie
+
+take-row-requires : tie.Need-take-row-requires
+take-row-requires c κs = search needs
+
+same-length : tie.Need-same-length
+same-length c = search needs
+
+same-length-2 : tie.Need-same-length-2
+same-length-2 c = search needs
+
+same-length-3 : tie.Need-same-length-3
+same-length-3 c = search needs
+
+same-length-4 : tie.Need-same-length-4
+same-length-4 c = search needs
+
+same-length-5 : tie.Need-same-length-5
+same-length-5 c = search needs
+
+returns : tie.Need-returns
+returns c = taken-moved greys _ _ _ _ _ _ _ _ (c .before .before .before .before .before .before .before .before .before .before .before .before .before .before .before .before .if1 .taken) (c .before .before .before .before .before .before .before .before .before .before .take-row .ensures)
+
+size-of-requires : tie.Need-size-of-requires
+size-of-requires c κs = search needs
+
+drain-requires : tie.Need-drain-requires
+drain-requires c κs = lent-as _ _ _ _ _ _ _ (c .before .before .before .size-of .ensures .0) (c .before .before .before .before .before .before .before .before .before .before .pre .2 .starts-long) (c .before .before .before .before .before .before .before .before .before .before .pre .2)
+
+same-length-6 : tie.Need-same-length-6
+same-length-6 c = search needs
+
+same-length-7 : tie.Need-same-length-7
+same-length-7 c = search needs
+
+same-length-8 : tie.Need-same-length-8
+same-length-8 c = search needs
+
+returns-2 : tie.Need-returns-2
+returns-2 c =
+    drained-moved greys _ _ _ _ _ _ _ (c .before .before .before .before .before .before .before .before .before .if1 .left) (c .before .before .before .before .before .before .before .before .before .before .before .before .before .before .before .pre .4) (c .before .before .before .before .before .before .before .before .before .before .before .before .before .before .before .pre .2 .starts-long) (rw (c .before .before .before .before .before .before .before .before .size-of .ensures .0) at (c .before .before .before .before .drain .ensures .0))
+
+pub move-on-spec : {M : Type 1} → statement M
+move-on-spec =
+    tie.close
+    (tie.spec
+    take-row-requires
+    same-length
+    same-length-2
+    same-length-3
+    same-length-4
+    same-length-5
+    returns
+    size-of-requires
+    drain-requires
+    same-length-6
+    same-length-7
+    same-length-8
+    returns-2)
