@@ -1,13 +1,15 @@
 -- The groups one after another.
 use borrow.Author.Needs.{needs}
+use Rattle.course.proofs.Laws.{gone-over}
+use Rattle.program.proofs.Whole.{head-known}
 use Rattle.program.proofs.run.Statement.{statement}
 use Rattle.program.proofs.run.Tie as tie
 
 read-plan-requires : tie.Need-read-plan-requires
 read-plan-requires c κs = search needs
 
-put-end-requires : tie.Need-put-end-requires
-put-end-requires c κs = search needs
+refuse-requires : tie.Need-refuse-requires
+refuse-requires c κs = search needs
 
 returns : tie.Need-returns
 returns c = search needs
@@ -21,8 +23,8 @@ read-full-requires c κs = search needs
 judge-image-requires : tie.Need-judge-image-requires
 judge-image-requires c κs = search needs
 
-put-end-requires-2 : tie.Need-put-end-requires-2
-put-end-requires-2 c κs = search needs
+refuse-requires-2 : tie.Need-refuse-requires-2
+refuse-requires-2 c κs = search needs
 
 returns-2 : tie.Need-returns-2
 returns-2 c = search needs
@@ -37,10 +39,10 @@ write-all-requires : tie.Need-write-all-requires
 write-all-requires c κs = search needs
 
 run-rows-requires : tie.Need-run-rows-requires
-run-rows-requires c κs = search needs
+run-rows-requires c κs = (c .before .before .before .before .before .before .before .before .before .before .before .before .before .before .read-plan .ensures, head-known _ _ _ (c .before .before .before .before .before .before .judge-image .ensures .0) (c .before .before .before .before .if2 .left), c .before .before .before .before .before .before .judge-image .ensures .1)
 
 finish-requires : tie.Need-finish-requires
-finish-requires c κs = search needs
+finish-requires c κs = gone-over _ _ _ _ (c .run-rows .ensures)
 
 returns-3 : tie.Need-returns-3
 returns-3 c = search needs
@@ -53,12 +55,12 @@ run-spec =
     tie.close
     (tie.spec
     read-plan-requires
-    put-end-requires
+    refuse-requires
     returns
     slice-aggregate-read-full
     read-full-requires
     judge-image-requires
-    put-end-requires-2
+    refuse-requires-2
     returns-2
     opening-requires
     slice-aggregate-write-all
