@@ -19,10 +19,10 @@ use Rattle.morph.proofs.Picture.{stage-wide, stage-length, stage-each}
 use Rattle.sample.specs.Samples.{Samples}
 use Rattle.columns.specs.Columns.{Lent, soundRecords}
 use Rattle.columns.proofs.Records.{test-sound, sound-test}
-use Rattle.plan.specs.declared.Stage.{Stage}
-use Rattle.plan.specs.declared.Plan.{Plan}
-use Rattle.plan.specs.Plan.{used, unused, filterOf, sizeOf, belowOf, cellsOf, total}
-use Rattle.plan.proofs.Laws.{mul-most}
+use Rattle.plan_record.specs.declared.Stage.{Stage}
+use Rattle.plan_record.specs.declared.Plan.{Plan}
+use Rattle.plan_record.specs.Plan.{used, unused, filterOf, sizeOf, belowOf, cellsOf, total}
+use Rattle.plan_record.proofs.Laws.{mul-most}
 use Rattle.stage.specs.Stage.{Memory, Whole, StageHolds, StageStep}
 use Rattle.chain.specs.Run.{after, allSound, frontOf, behind, Ready, Begins, Leaves, Fronted, Holds, PlanStep}
 

@@ -10,9 +10,9 @@ use Rattle.morph.specs.Picture.{Picture, applyStage, applyPlan}
 use Rattle.morph.specs.Plan.{planCost}
 use Rattle.sample.specs.Samples.{Samples}
 use Rattle.columns.specs.Columns.{soundRecords}
-use Rattle.plan.specs.declared.Stage.{Stage}
-use Rattle.plan.specs.declared.Plan.{Plan}
-use Rattle.plan.specs.Plan.{Small, used, filterOf, sizeOf, belowOf, cellsOf, total}
+use Rattle.plan_record.specs.declared.Stage.{Stage}
+use Rattle.plan_record.specs.declared.Plan.{Plan}
+use Rattle.plan_record.specs.Plan.{Small, used, filterOf, sizeOf, belowOf, cellsOf, total}
 use Rattle.stage.specs.Stage.{Memory, Whole, StageHolds, StageStep}
 
 -- the stages of a plan from stage i on

@@ -3,13 +3,13 @@
 
 ghost use mathlib.Core.Path.{_≡_};
 ghost use Prim.Native.Nat.{_≤_};
-ghost use Rattle.plan.specs.Plan.{Small, cellsOf};
-use plan::Stage;
+ghost use Rattle.plan_record.specs.Plan.{Small, cellsOf};
+use plan_record::Stage;
 
 // The cells of one stage.
 pub fn cells_of(stage: Stage, width: usize) -> usize
     requires { ⌜ Small stage × (width ≤ 4096) ⌝ }
     ensures { λ r. ⌜ r ≡ cellsOf width stage ⌝ }
 {
-    width * plan::size_of(stage)
+    width * plan_record::size_of(stage)
 }

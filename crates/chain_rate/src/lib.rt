@@ -4,10 +4,10 @@ ghost use mathlib.Core.Path.{_≡_};
 ghost use Prim.Native.Nat.{_≤_};
 ghost use lib.ListN.{length};
 ghost use Rattle.sample.specs.Samples.{rates};
-ghost use Rattle.plan.specs.Plan.{belowOf, cellsOf};
+ghost use Rattle.plan_record.specs.Plan.{belowOf, cellsOf};
 ghost use Rattle.chain.specs.Run.{Leaves, Begins, Ready, after, Fronted, PlanStep};
-use plan::Plan;
-use plan::Stage;
+use plan_record::Plan;
+use plan_record::Stage;
 
 // What the stages of a plan made of a step: the comparisons, and whether the last stage's row stands in the row's place.
 pub struct Ran {
@@ -51,7 +51,7 @@ fn run_front(
     Front {
         comparisons: comparisons,
         cells: cells,
-        ahead: plan::below(stage),
+        ahead: plan_record::below(stage),
     }
 }
 

@@ -11,10 +11,10 @@ use lib.Dec.{eqb, leb}
 use types.Run.{OneOf}
 use Rattle.morph.proofs.Lists.{split}
 use Rattle.sample.specs.Samples.{Samples}
-use Rattle.plan.specs.declared.Plan.{Plan}
-use Rattle.plan.specs.Numbers.{firstOf}
-use Rattle.plan.specs.Plan.{planAhead}
-use Rattle.plan.proofs.Numbers.{first-one, first-skip, first-found}
+use Rattle.plan_record.specs.declared.Plan.{Plan}
+use Rattle.plan_record.specs.Numbers.{firstOf}
+use Rattle.plan_record.specs.Plan.{planAhead}
+use Rattle.plan_record.proofs.Numbers.{first-one, first-skip, first-found}
 use Rattle.stage.specs.Stage.{Memory}
 use Rattle.picture_state.specs.declared.Answer.{Answer}
 use Rattle.picture_state.specs.declared.State.{State}

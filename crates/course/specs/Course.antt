@@ -3,8 +3,8 @@ use mathlib.Core.Path.{_≡_}
 use mathlib.Core.List.{[], _∷_}
 use mathlib.Core.Logic.{_⊎_}
 use Prim.Native.Nat.{ℕ, _+_, _≤_}
-use Rattle.plan.specs.Numbers.{firstOf}
-use Rattle.plan.specs.Plan.{planAhead}
+use Rattle.plan_record.specs.Numbers.{firstOf}
+use Rattle.plan_record.specs.Plan.{planAhead}
 use Rattle.picture_state.specs.declared.State.{State}
 use Rattle.picture_state.specs.Step.{nextState}
 use Rattle.groups.specs.declared.Next.{Next}

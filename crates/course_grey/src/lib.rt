@@ -3,14 +3,14 @@
 ghost use Prim.Native.Nat.{_+_, _≤_, _<_};
 ghost use lib.ListN.{length, drop};
 ghost use Rattle.sample.specs.Samples.{greys};
-ghost use Rattle.plan.specs.Plan.{planAhead};
+ghost use Rattle.plan_record.specs.Plan.{planAhead};
 ghost use Rattle.picture_state.specs.Numbers.{rowNumber, drainJudged};
 ghost use Rattle.picture_state.specs.Start.{firstState};
 ghost use Rattle.course.specs.Course.{Turned, ReadTurned, Gone};
 use course::Course;
 use course::Turn;
 use picture::State;
-use plan::Plan;
+use plan_record::Plan;
 
 // Reads a row, steps, and writes the row that is due.
 fn read_one(
@@ -190,7 +190,7 @@ pub fn run(from: i32, to: i32, plan: Plan, width: usize, rows: usize) -> Turn
         from,
         to,
         state,
-        plan::look_ahead(plan),
+        plan_record::look_ahead(plan),
         &mut row[..width],
         &mut frame[..end],
         &mut values,

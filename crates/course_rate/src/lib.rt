@@ -4,7 +4,7 @@ ghost use mathlib.Core.Path.{_≡_};
 ghost use Prim.Native.Nat.{_+_, _*_, _≤_};
 ghost use lib.ListN.{length};
 ghost use Rattle.sample.specs.Samples.{rates};
-ghost use Rattle.plan.specs.Plan.{planAhead};
+ghost use Rattle.plan_record.specs.Plan.{planAhead};
 ghost use Rattle.picture_state.specs.Numbers.{rowNumber, drainJudged};
 ghost use Rattle.picture_state.specs.Start.{firstState};
 ghost use Rattle.frames.specs.Floats.{floatsOf};
@@ -13,7 +13,7 @@ use course::Course;
 use course::Turn;
 use groups::Next;
 use picture::State;
-use plan::Plan;
+use plan_record::Plan;
 
 // Writes the output row, if it is due, in its frame.
 fn put(to: i32, next: Next, out: &[f32], frame: &mut [u8]) -> Course
@@ -256,7 +256,7 @@ pub fn run(from: i32, to: i32, plan: Plan, width: usize, rows: usize) -> Turn
         from,
         to,
         state,
-        plan::look_ahead(plan),
+        plan_record::look_ahead(plan),
         &mut bytes[..size],
         &mut row[..width],
         &mut out[..width],

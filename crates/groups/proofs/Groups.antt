@@ -8,10 +8,10 @@ use borrow.Author.Tests.{lt-ltb, le-ltb, eq-eqb, ne-eqb, eqb-true}
 use lib.Dec.{eqb}
 use lib.ListN.{length, getD}
 use Rattle.morph.proofs.Lists.{split}
-use Rattle.plan.specs.declared.Plan.{Plan}
-use Rattle.plan.specs.Numbers.{firstOf}
-use Rattle.plan.specs.Plan.{countNumber}
-use Rattle.plan.proofs.Numbers.{first-zero, first-one}
+use Rattle.plan_record.specs.declared.Plan.{Plan}
+use Rattle.plan_record.specs.Numbers.{firstOf}
+use Rattle.plan_record.specs.Plan.{countNumber}
+use Rattle.plan_record.proofs.Numbers.{first-zero, first-one}
 use Rattle.job_read.specs.declared.Head.{Head}
 use Rattle.job_read.specs.Layout.{widthFrom}
 use Rattle.job_read.specs.Job.{missing, headNumber, headAnswered}

@@ -5,9 +5,9 @@ use mathlib.Core.List.{List, [], _∷_}
 use Prim.Native.Nat.{ℕ, _*_}
 use lib.Dec.{eqb, ltb}
 use lib.ListN.{getD}
-use Rattle.plan.specs.declared.Plan.{Plan}
-use Rattle.plan.specs.Numbers.{given, firstOf}
-use Rattle.plan.specs.Plan.{countNumber, cellsNeeded}
+use Rattle.plan_record.specs.declared.Plan.{Plan}
+use Rattle.plan_record.specs.Numbers.{given, firstOf}
+use Rattle.plan_record.specs.Plan.{countNumber, cellsNeeded}
 use Rattle.job_read.specs.Layout.{widthFrom}
 use Rattle.job_read.specs.Job.{missing, headNumber}
 use Rattle.picture_state.specs.Step.{Said, row, notYet, refused}

@@ -9,7 +9,7 @@ ghost use Rattle.picture_state.specs.Step.{saidOf};
 ghost use Rattle.groups.specs.Groups.{groupNumber, tailNumber, imageNumber, stagesAsked, nextOf};
 use job::Head;
 use picture::Answer;
-use plan::Plan;
+use plan_record::Plan;
 
 // ---- what is judged
 
@@ -41,7 +41,7 @@ pub fn stages_asked(bytes: &[u8]) -> usize
         return 0;
     }
     let count = morph::wide(bytes[0]);
-    if plan::judge_count(count) != 0 {
+    if plan_record::judge_count(count) != 0 {
         return 0;
     }
     count * 5
@@ -71,7 +71,7 @@ pub fn judge_image(plan: Plan, got: usize, bytes: &[u8; 5]) -> Head
     if head.number != 0 {
         return head;
     }
-    if 4096 < plan::cells(plan, head.width) {
+    if 4096 < plan_record::cells(plan, head.width) {
         return refused_head(15);
     }
     head

@@ -14,13 +14,13 @@ use Rattle.morph.specs.Lists.{tabulate}
 use Rattle.morph.proofs.Lists.{split, neither, length-tabulate, tabulate-ext}
 use Rattle.morph.specs.declared.Kind.{Kind}
 use Rattle.morph.specs.declared.Kind.the-variants.{Erosion, Dilation}
-use Rattle.plan.specs.declared.Stage.{Stage}
-use Rattle.plan.specs.declared.Plan.{Plan}
-use Rattle.plan.specs.Numbers.{given, firstOf, sampleNumber, sizeNumber}
-use Rattle.plan.specs.Plan.{unused, planOf, used, countNumber, kindNumber, extentNumber, kindFrom, recordStageNumber, recordStagesNumber, recordNumber, stageFrom, stageNumber, stagesFrom, stagesNumber, planNumber, withExtents}
-use Rattle.plan.proofs.Numbers.{first-one, first-skip, first-zero, all-zero, given-zero}
-use Rattle.plan.proofs.Laws.{used-plan, count-accepted, count-zero}
-use Rattle.plan.proofs.Named.{judged-count, judged-reading}
+use Rattle.plan_record.specs.declared.Stage.{Stage}
+use Rattle.plan_record.specs.declared.Plan.{Plan}
+use Rattle.plan_record.specs.Numbers.{given, firstOf, sampleNumber, sizeNumber}
+use Rattle.plan_record.specs.Plan.{unused, planOf, used, countNumber, kindNumber, extentNumber, kindFrom, recordStageNumber, recordStagesNumber, recordNumber, stageFrom, stageNumber, stagesFrom, stagesNumber, planNumber, withExtents}
+use Rattle.plan_record.proofs.Numbers.{first-one, first-skip, first-zero, all-zero, given-zero}
+use Rattle.plan_record.proofs.Laws.{used-plan, count-accepted, count-zero}
+use Rattle.plan_record.proofs.Named.{judged-count, judged-reading}
 use Rattle.job_read.specs.declared.Job.{Job}
 use Rattle.job_read.specs.declared.JobRead.{JobRead}
 use Rattle.job_read.specs.Layout.{kindByte, stageBytes, stagesBytes, planBytes, headBytes, encode, rowBytes, headAt, rowsAt, widthFrom, rowsFrom, jobFrom, Valid, IsJob}

@@ -9,13 +9,13 @@ use lib.Dec.{eqb, ltb}
 use lib.ListN.{length, getD, take, drop, length-drop, List·getD-append}
 use lib.Seq.{getD-drop, getD-take, length-take-le}
 use Rattle.morph.proofs.Lists.{split, length-tabulate, tabulate-ext}
-use Rattle.plan.specs.declared.Plan.{Plan}
-use Rattle.plan.specs.declared.Reading.{Reading}
-use Rattle.plan.specs.Numbers.{given, firstOf, sampleNumber, sizeNumber}
-use Rattle.plan.specs.Plan.{planOf, countNumber, stageFrom, stageNumber, stagesFrom, stagesNumber, planNumber, planRead, answered}
-use Rattle.plan.proofs.Numbers.{first-one, first-skip, first-found, first-zero, given-zero, size-accepted}
-use Rattle.plan.proofs.Laws.{refused-answer, count-accepted}
-use Rattle.plan.proofs.Named.{counted}
+use Rattle.plan_record.specs.declared.Plan.{Plan}
+use Rattle.plan_record.specs.declared.Reading.{Reading}
+use Rattle.plan_record.specs.Numbers.{given, firstOf, sampleNumber, sizeNumber}
+use Rattle.plan_record.specs.Plan.{planOf, countNumber, stageFrom, stageNumber, stagesFrom, stagesNumber, planNumber, planRead, answered}
+use Rattle.plan_record.proofs.Numbers.{first-one, first-skip, first-found, first-zero, given-zero, size-accepted}
+use Rattle.plan_record.proofs.Laws.{refused-answer, count-accepted}
+use Rattle.plan_record.proofs.Named.{counted}
 use Rattle.job_read.specs.declared.Job.{Job}
 use Rattle.job_read.specs.declared.Head.{Head}
 use Rattle.job_read.specs.declared.JobRead.{JobRead}

@@ -5,9 +5,9 @@ use mathlib.Core.List.{List, [], _∷_}
 use Prim.Native.Nat.{ℕ, _+_, _*_}
 use lib.Dec.{eqb, ltb}
 use lib.ListN.{length, getD, drop}
-use Rattle.plan.specs.declared.Reading.{Reading}
-use Rattle.plan.specs.Numbers.{given, firstOf, sampleNumber, sizeNumber}
-use Rattle.plan.specs.Plan.{planOf, countNumber, stagesFrom, stagesNumber, answered}
+use Rattle.plan_record.specs.declared.Reading.{Reading}
+use Rattle.plan_record.specs.Numbers.{given, firstOf, sampleNumber, sizeNumber}
+use Rattle.plan_record.specs.Plan.{planOf, countNumber, stagesFrom, stagesNumber, answered}
 use Rattle.job_read.specs.declared.Job.{Job}
 use Rattle.job_read.specs.declared.Head.{Head}
 use Rattle.job_read.specs.declared.JobRead.{JobRead}

@@ -5,9 +5,9 @@ use Prim.Native.Nat.{ℕ, zero, suc, _+_, _*_, _/_, _%_, _≤_}
 use lib.ListN.{length, getD, drop}
 use Rattle.morph.specs.declared.Kind.{Kind}
 use Rattle.morph.specs.declared.Kind.the-variants.{Erosion, Dilation}
-use Rattle.plan.specs.declared.Stage.{Stage}
-use Rattle.plan.specs.declared.Plan.{Plan}
-use Rattle.plan.specs.Plan.{planOf, used, stagesFrom, recordNumber}
+use Rattle.plan_record.specs.declared.Stage.{Stage}
+use Rattle.plan_record.specs.declared.Plan.{Plan}
+use Rattle.plan_record.specs.Plan.{planOf, used, stagesFrom, recordNumber}
 use Rattle.job_read.specs.declared.Job.{Job}
 
 -- ---- the bytes

@@ -6,8 +6,8 @@ ghost use lib.ListN.{length, getD, drop, replicate};
 ghost use Rattle.job_read.specs.Layout.{sampleBytes, lowHigh};
 ghost use Rattle.job_read.specs.Job.{planSection, headNumber, headAnswered, headSectionNumber, rowsNumber, noJob, jobRead};
 use morph::wide;
-use plan::Plan;
-use plan::Reading;
+use plan_record::Plan;
+use plan_record::Reading;
 
 // A job that was read: its plan, its image head, and where its rows begin.
 pub struct Job {
@@ -77,20 +77,20 @@ pub fn plan_section(bytes: &[u8]) -> Reading
     ensures { λ r. ⌜ r ≡ planSection (now (bytes .entry)) ⌝ }
 {
     if bytes.len() < 1 {
-        return plan::refused(13);
+        return plan_record::refused(13);
     }
     let count = bytes[0];
     let n = wide(count);
-    let number = plan::judge_count(n);
+    let number = plan_record::judge_count(n);
     if number != 0 {
-        return plan::refused(number);
+        return plan_record::refused(number);
     }
     let end = 1 + n * 5;
     if bytes.len() < end {
-        return plan::refused(13);
+        return plan_record::refused(13);
     }
     let stages = padded(&bytes[1..end]);
-    plan::read(count, &stages)
+    plan_read::read(count, &stages)
 }
 
 // ---- the image head
@@ -111,13 +111,13 @@ pub fn read_head(bytes: &[u8; 5]) -> Head
     ensures { λ r. ⌜ r ≡ headAnswered (headNumber (now (bytes .entry))) (now (bytes .entry)) ⌝ }
 {
     let sample = bytes[0];
-    let number = plan::judge_sample(sample);
+    let number = plan_record::judge_sample(sample);
     if number != 0 {
         return refused_head(number);
     }
     let width = low_high(bytes[1], bytes[2]);
     let rows = low_high(bytes[3], bytes[4]);
-    let number = plan::judge_size(width, rows);
+    let number = plan_record::judge_size(width, rows);
     if number != 0 {
         return refused_head(number);
     }
@@ -176,7 +176,7 @@ fn refused(number: u8) -> JobRead
     ensures { λ r. ⌜ r ≡ record { number = number; job = noJob } ⌝ }
 {
     let none = Job {
-        plan: plan::empty(),
+        plan: plan_record::empty(),
         sample: 0,
         width: 0,
         rows: 0,

@@ -10,7 +10,7 @@ use lib.Dec.{leb, ltb}
 use lib.ListN.{length, take, drop}
 use lib.Seq.{slice, slice-empty, take-nil}
 use Rattle.morph.proofs.Lists.{split, neither}
-use Rattle.plan.proofs.Numbers.{given-zero}
+use Rattle.plan_record.proofs.Numbers.{given-zero}
 use Rattle.job_read.specs.declared.Job.{Job}
 use Rattle.job_read.specs.Layout.{sampleBytes, rowBytes}
 use Rattle.job_view.specs.View.{rowAt, thereTo, viewNumber, viewed}

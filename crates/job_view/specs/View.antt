@@ -5,7 +5,7 @@ use Prim.Native.Nat.{ℕ, _+_, _*_}
 use lib.Dec.{eqb, ltb, leb}
 use lib.ListN.{length}
 use lib.Seq.{slice}
-use Rattle.plan.specs.Numbers.{given}
+use Rattle.plan_record.specs.Numbers.{given}
 use Rattle.job_read.specs.declared.Job.{Job}
 use Rattle.job_read.specs.Layout.{rowBytes}
 

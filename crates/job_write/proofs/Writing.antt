@@ -9,9 +9,9 @@ use borrow.Author.Tests.{lt-ltb, le-ltb, eq-eqb, ne-eqb}
 use lib.Dec.{ltb}
 use lib.ListN.{length, getD, take, drop, set, length-append}
 use lib.Seq.{sets, take-suc, length-take-le, sets-eq}
-use Rattle.plan.specs.declared.Stage.{Stage}
-use Rattle.plan.specs.Numbers.{given, firstOf, sampleNumber, sizeNumber}
-use Rattle.plan.specs.Plan.{used, recordNumber}
+use Rattle.plan_record.specs.declared.Stage.{Stage}
+use Rattle.plan_record.specs.Numbers.{given, firstOf, sampleNumber, sizeNumber}
+use Rattle.plan_record.specs.Plan.{used, recordNumber}
 use Rattle.job_read.specs.declared.Job.{Job}
 use Rattle.job_write.specs.declared.Written.the-variants.{Bytes, Refused}
 use Rattle.job_read.specs.Layout.{stageBytes, stagesBytes, planBytes, headBytes, encode, headAt, rowsAt}

@@ -5,8 +5,8 @@ use mathlib.Core.List.{List, [], _∷_, _++_}
 use Prim.Native.Nat.{ℕ, zero, suc}
 use lib.Dec.{eqb, ltb}
 use lib.ListN.{length, drop}
-use Rattle.plan.specs.Numbers.{given, firstOf, sampleNumber, sizeNumber}
-use Rattle.plan.specs.Plan.{recordNumber}
+use Rattle.plan_record.specs.Numbers.{given, firstOf, sampleNumber, sizeNumber}
+use Rattle.plan_record.specs.Plan.{recordNumber}
 use Rattle.job_read.specs.declared.Job.{Job}
 use Rattle.job_write.specs.declared.Written.{Written}
 use Rattle.job_write.specs.declared.Written.the-variants.{Bytes, Refused}

@@ -5,13 +5,13 @@ ghost use mathlib.Core.List.{[], _∷_};
 ghost use Prim.Native.Nat.{_+_, _≤_, _<_};
 ghost use lib.ListN.{length};
 ghost use lib.Seq.{sets};
-ghost use Rattle.plan.specs.Plan.{used};
+ghost use Rattle.plan_record.specs.Plan.{used};
 ghost use Rattle.job_read.specs.Layout.{kindByte, stageBytes, stagesBytes, headBytes, headAt};
 ghost use Rattle.job_write.specs.Write.{Wrote};
 use job_read::Job;
 use morph::Kind;
-use plan::Plan;
-use plan::Stage;
+use plan_record::Plan;
+use plan_record::Stage;
 
 // The bytes that were written, or a refusal's number.
 pub enum Written {
@@ -97,15 +97,15 @@ pub fn write_head(job: Job, out: &mut [u8]) -> Written
     ensures { λ r. ⌜ Wrote job (now (out .entry)) (now (out .exit)) r ⌝ }
 {
     let plan = job.plan;
-    let number = plan::judge(plan);
+    let number = plan_record::judge(plan);
     if number != 0 {
         return Written::Refused(number);
     }
-    let number = plan::judge_sample(job.sample);
+    let number = plan_record::judge_sample(job.sample);
     if number != 0 {
         return Written::Refused(number);
     }
-    let number = plan::judge_size(job.width, job.rows);
+    let number = plan_record::judge_size(job.width, job.rows);
     if number != 0 {
         return Written::Refused(number);
     }

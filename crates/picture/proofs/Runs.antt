@@ -16,14 +16,14 @@ use Rattle.morph.specs.Plan.{planCost}
 use Rattle.morph.proofs.Lists.{split, tabulate-snoc}
 use Rattle.morph.proofs.Plan.{plan-costs-bound}
 use Rattle.sample.specs.Samples.{Samples}
-use Rattle.plan.specs.Plan.{used, stagesOf, planAhead}
-use Rattle.plan.proofs.Named.{look-ahead-plan}
+use Rattle.plan_record.specs.Plan.{used, stagesOf, planAhead}
+use Rattle.plan_record.proofs.Named.{look-ahead-plan}
 use Rattle.stage.specs.Stage.{Memory, Whole}
 use Rattle.chain.specs.Run.{Holds}
 use Rattle.picture_state.specs.declared.State.{State}
 use Rattle.picture_state.specs.declared.Answer.{Answer}
-use Rattle.plan.specs.Numbers.{given}
-use Rattle.plan.proofs.Numbers.{first-zero}
+use Rattle.plan_record.specs.Numbers.{given}
+use Rattle.plan_record.proofs.Numbers.{first-zero}
 use Rattle.picture_state.specs.Numbers.{offerNumber, rowNumber}
 use Rattle.picture_state.proofs.Numbers.{offer-accepted, drain-accepted}
 use Rattle.picture_state.specs.Step.{Said, row, notYet, saidOf, nextState, Advanced}

@@ -11,7 +11,7 @@ use Rattle.morph.specs.Picture.{Picture, Wide, Stage as Filter, applyStage, app
 use Rattle.morph.proofs.Lists.{split}
 use Rattle.morph.proofs.Picture.{stage-wide, stage-each}
 use Rattle.sample.specs.Samples.{Samples}
-use Rattle.plan.specs.Plan.{used, cellsNeeded, recordsNeeded, planAhead}
+use Rattle.plan_record.specs.Plan.{used, cellsNeeded, recordsNeeded, planAhead}
 use Rattle.stage.specs.Stage.{Memory, Whole}
 use Rattle.chain.specs.Run.{behind, Holds}
 use Rattle.picture_state.specs.declared.State.{State}

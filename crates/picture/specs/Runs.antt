@@ -8,7 +8,7 @@ use Rattle.morph.specs.Lists.{tabulate}
 use Rattle.morph.specs.Picture.{Picture, rowAt}
 use Rattle.morph.specs.Plan.{planCost, stageBound}
 use Rattle.sample.specs.Samples.{Samples}
-use Rattle.plan.specs.Plan.{used, stagesOf}
+use Rattle.plan_record.specs.Plan.{used, stagesOf}
 use Rattle.stage.specs.Stage.{Memory}
 use Rattle.chain.specs.Run.{Holds}
 use Rattle.picture_state.specs.declared.State.{State}

@@ -4,7 +4,7 @@ ghost use mathlib.Core.Path.{_≡_};
 ghost use Prim.Native.Nat.{_+_, _<_};
 ghost use lib.ListN.{length};
 ghost use Rattle.sample.specs.Samples.{greys};
-ghost use Rattle.plan.specs.Plan.{planAhead};
+ghost use Rattle.plan_record.specs.Plan.{planAhead};
 ghost use Rattle.picture_state.specs.Fit.{Fit};
 ghost use Rattle.picture_state.specs.Step.{Advanced, RowStep, DrainStep};
 ghost use Rattle.columns.specs.Columns.{Lent, columnAt};
@@ -33,8 +33,8 @@ fn advance(
     let width = state.width;
     let rows = state.rows;
     let t = state.step;
-    let cells = plan::cells(plan, width);
-    let records = plan::records(plan, width);
+    let cells = plan_record::cells(plan, width);
+    let records = plan_record::records(plan, width);
     let ran = chain_grey::run(
         plan,
         0,
@@ -49,7 +49,7 @@ fn advance(
     let next = picture_state::moved(state);
     if ran.due {
         sample::grey::copy(&work[..], out);
-        return picture_state::came(next, t - plan::look_ahead(plan), ran.comparisons);
+        return picture_state::came(next, t - plan_record::look_ahead(plan), ran.comparisons);
     }
     picture_state::waits(next, ran.comparisons)
 }

@@ -5,7 +5,7 @@ ghost use mathlib.Core.List.{map};
 ghost use Prim.Native.Nat.{_+_, _<_};
 ghost use lib.ListN.{length};
 ghost use Rattle.sample.specs.Samples.{rates};
-ghost use Rattle.plan.specs.Plan.{planAhead};
+ghost use Rattle.plan_record.specs.Plan.{planAhead};
 ghost use Rattle.columns.specs.Columns.{Lent, columnAt};
 ghost use Rattle.picture_state.specs.Fit.{Fit};
 ghost use Rattle.picture_rate.specs.Shown.{rateShown};
@@ -34,8 +34,8 @@ fn advance(
     let width = state.width;
     let rows = state.rows;
     let t = state.step;
-    let cells = plan::cells(plan, width);
-    let records = plan::records(plan, width);
+    let cells = plan_record::cells(plan, width);
+    let records = plan_record::records(plan, width);
     let ran = chain_rate::run(
         plan,
         0,
@@ -50,7 +50,7 @@ fn advance(
     let next = picture_state::moved(state);
     if ran.due {
         sample::rate::copy(&work[..], out);
-        return picture_state::came(next, t - plan::look_ahead(plan), ran.comparisons);
+        return picture_state::came(next, t - plan_record::look_ahead(plan), ran.comparisons);
     }
     picture_state::waits(next, ran.comparisons)
 }

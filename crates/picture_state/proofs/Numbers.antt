@@ -12,12 +12,12 @@ use lib.ListN.{length, getD, take, drop, length-take, length-drop}
 use lib.Seq.{getD-take, take-suc, drop-drop, length-take-le}
 use Rattle.morph.specs.Lists.{Each}
 use Rattle.morph.proofs.Lists.{neither, each-in, in-place}
-use Rattle.plan.specs.declared.Stage.{Stage}
-use Rattle.plan.specs.declared.Plan.{Plan}
-use Rattle.plan.specs.Numbers.{given, firstOf, sampleNumber, sizeNumber}
-use Rattle.plan.specs.Plan.{Small, unused, used, total, belowOf, sizeOf, recordNumber, cellsNeeded, recordsNeeded, planAhead}
-use Rattle.plan.proofs.Numbers.{first-one, first-skip, first-found, first-zero, given-zero, size-accepted}
-use Rattle.plan.proofs.Named.{judged-count, judged-stage}
+use Rattle.plan_record.specs.declared.Stage.{Stage}
+use Rattle.plan_record.specs.declared.Plan.{Plan}
+use Rattle.plan_record.specs.Numbers.{given, firstOf, sampleNumber, sizeNumber}
+use Rattle.plan_record.specs.Plan.{Small, unused, used, total, belowOf, sizeOf, recordNumber, cellsNeeded, recordsNeeded, planAhead}
+use Rattle.plan_record.proofs.Numbers.{first-one, first-skip, first-found, first-zero, given-zero, size-accepted}
+use Rattle.plan_record.proofs.Named.{judged-count, judged-stage}
 use Rattle.stage.proofs.Stage.{ahead-small}
 use Rattle.columns.specs.Columns.{soundRecords}
 use Rattle.chain.specs.Run.{allSound}

@@ -18,11 +18,11 @@ use Rattle.sample.specs.Samples.{Samples}
 use Rattle.columns.specs.Columns.{Lent, soundRecords, columnAt, EntryAt}
 use Rattle.columns.proofs.Column.{column-length}
 use Rattle.columns.proofs.Records.{test-sound}
-use Rattle.plan.specs.declared.Stage.{Stage}
-use Rattle.plan.specs.declared.Plan.{Plan}
-use Rattle.plan.specs.Numbers.{given, firstOf}
-use Rattle.plan.specs.Plan.{unused, used, filterOf, sizeOf, belowOf, cellsOf, total, cellsNeeded, recordsNeeded}
-use Rattle.plan.proofs.Numbers.{first-one, first-skip, first-found, first-zero, given-zero}
+use Rattle.plan_record.specs.declared.Stage.{Stage}
+use Rattle.plan_record.specs.declared.Plan.{Plan}
+use Rattle.plan_record.specs.Numbers.{given, firstOf}
+use Rattle.plan_record.specs.Plan.{unused, used, filterOf, sizeOf, belowOf, cellsOf, total, cellsNeeded, recordsNeeded}
+use Rattle.plan_record.proofs.Numbers.{first-one, first-skip, first-found, first-zero, given-zero}
 use Rattle.stage.specs.Stage.{Memory}
 use Rattle.chain.specs.Run.{behind, allSound, Holds}
 use Rattle.picture_state.specs.declared.State.{State}

@@ -17,13 +17,13 @@ use Rattle.sample.specs.Samples.{Samples}
 use Rattle.columns.specs.Columns.{soundRecords}
 use Rattle.columns.proofs.Column.{column-length}
 use Rattle.columns.proofs.Records.{sound-test}
-use Rattle.plan.specs.declared.Stage.{Stage}
-use Rattle.plan.specs.declared.Plan.{Plan}
-use Rattle.plan.specs.Numbers.{given, sampleNumber, sizeNumber}
-use Rattle.plan.specs.Plan.{used, sizeOf, cellsOf, belowOf, filterOf, recordNumber, recordsNeeded, planAhead, planOf, stagesFrom, planNumber, planRead}
-use Rattle.plan.specs.declared.Reading.{Reading}
-use Rattle.plan.proofs.Named.{judged-reading}
-use Rattle.plan.proofs.Numbers.{size-accepted, first-one, first-skip, first-found, first-zero}
+use Rattle.plan_record.specs.declared.Stage.{Stage}
+use Rattle.plan_record.specs.declared.Plan.{Plan}
+use Rattle.plan_record.specs.Numbers.{given, sampleNumber, sizeNumber}
+use Rattle.plan_record.specs.Plan.{used, sizeOf, cellsOf, belowOf, filterOf, recordNumber, recordsNeeded, planAhead, planOf, stagesFrom, planNumber, planRead}
+use Rattle.plan_record.specs.declared.Reading.{Reading}
+use Rattle.plan_record.proofs.Named.{judged-reading}
+use Rattle.plan_record.proofs.Numbers.{size-accepted, first-one, first-skip, first-found, first-zero}
 use Rattle.stage.specs.Stage.{Memory, StageHolds}
 use Rattle.chain.specs.Run.{frontOf, behind, allSound, Holds}
 use Rattle.picture_state.specs.declared.State.{State}

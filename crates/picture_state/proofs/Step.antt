@@ -12,9 +12,9 @@ use lib.Seq.{take-nil, length-take-le, take-take, take-at, drop-at}
 use Rattle.morph.specs.Lists.{all}
 use Rattle.morph.specs.Picture.{Picture, applyStage}
 use Rattle.sample.specs.Samples.{Samples, greys}
-use Rattle.plan.specs.declared.Stage.{Stage}
-use Rattle.plan.specs.declared.Plan.{Plan}
-use Rattle.plan.specs.Plan.{used, filterOf, belowOf, cellsOf, total, cellsNeeded, recordsNeeded, planAhead}
+use Rattle.plan_record.specs.declared.Stage.{Stage}
+use Rattle.plan_record.specs.declared.Plan.{Plan}
+use Rattle.plan_record.specs.Plan.{used, filterOf, belowOf, cellsOf, total, cellsNeeded, recordsNeeded, planAhead}
 use Rattle.stage.specs.Stage.{Memory, StageHolds}
 use Rattle.chain.specs.Run.{frontOf, behind, allSound, Ready, Holds, PlanStep}
 use Rattle.picture_state.specs.declared.State.{State}
@@ -23,8 +23,8 @@ use Rattle.picture_state.specs.Step.{Said, row, notYet, refused, saidOf,
 use Rattle.picture_state.proofs.Numbers.{shared-accepted, used-small, drain-accepted}
 use Rattle.picture_state.specs.Fit.{Run, Fit}
 use Rattle.picture_state.specs.Numbers.{memoryJudged, offerNumber, rowNumber, drainJudged}
-use Rattle.plan.specs.Numbers.{given}
-use Rattle.plan.proofs.Numbers.{first-one, first-skip, first-found}
+use Rattle.plan_record.specs.Numbers.{given}
+use Rattle.plan_record.proofs.Numbers.{first-one, first-skip, first-found}
 
 -- ---- cutting
 

@@ -3,8 +3,8 @@ use mathlib.Core.Path.{_≡_}
 use mathlib.Core.Bool.{true}
 use Prim.Native.Nat.{ℕ, _+_, _≤_, _<_}
 use lib.ListN.{length, getD}
-use Rattle.plan.specs.declared.Plan.{Plan}
-use Rattle.plan.specs.Plan.{Small, unused, used, cellsNeeded, recordsNeeded, planAhead}
+use Rattle.plan_record.specs.declared.Plan.{Plan}
+use Rattle.plan_record.specs.Plan.{Small, unused, used, cellsNeeded, recordsNeeded, planAhead}
 use Rattle.stage.specs.Stage.{Memory}
 use Rattle.chain.specs.Run.{allSound}
 use Rattle.picture_state.specs.declared.State.{State}

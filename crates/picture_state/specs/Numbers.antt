@@ -6,9 +6,9 @@ use lib.Dec.{eqb, ltb, leb}
 use lib.ListN.{length}
 use Rattle.morph.specs.Lists.{all}
 use Rattle.sample.specs.Samples.{Samples}
-use Rattle.plan.specs.declared.Plan.{Plan}
-use Rattle.plan.specs.Numbers.{given, firstOf, sampleNumber, sizeNumber}
-use Rattle.plan.specs.Plan.{used, recordNumber, cellsNeeded, recordsNeeded, planAhead}
+use Rattle.plan_record.specs.declared.Plan.{Plan}
+use Rattle.plan_record.specs.Numbers.{given, firstOf, sampleNumber, sizeNumber}
+use Rattle.plan_record.specs.Plan.{used, recordNumber, cellsNeeded, recordsNeeded, planAhead}
 use Rattle.stage.specs.Stage.{Memory}
 use Rattle.chain.specs.Run.{allSound}
 use Rattle.picture_state.specs.declared.State.{State}

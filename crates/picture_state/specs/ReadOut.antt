@@ -8,9 +8,9 @@ use lib.ListN.{length, getD}
 use Rattle.morph.specs.Line.{Entry}
 use Rattle.sample.specs.Samples.{Samples}
 use Rattle.columns.specs.Columns.{columnAt}
-use Rattle.plan.specs.declared.Stage.{Stage}
-use Rattle.plan.specs.Numbers.{given, firstOf}
-use Rattle.plan.specs.Plan.{used, sizeOf, cellsOf}
+use Rattle.plan_record.specs.declared.Stage.{Stage}
+use Rattle.plan_record.specs.Numbers.{given, firstOf}
+use Rattle.plan_record.specs.Plan.{used, sizeOf, cellsOf}
 use Rattle.stage.specs.Stage.{Memory}
 use Rattle.chain.specs.Run.{frontOf, behind}
 use Rattle.picture_state.specs.declared.State.{State}

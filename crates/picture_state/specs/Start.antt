@@ -3,9 +3,9 @@ use mathlib.Core.Path.{_≡_}
 use mathlib.Core.List.{List, [], _∷_, _++_}
 use Prim.Native.Nat.{ℕ}
 use lib.ListN.{drop, replicate}
-use Rattle.plan.specs.declared.Plan.{Plan}
-use Rattle.plan.specs.Numbers.{firstOf, sampleNumber, sizeNumber}
-use Rattle.plan.specs.Plan.{planOf, stagesFrom, planNumber}
+use Rattle.plan_record.specs.declared.Plan.{Plan}
+use Rattle.plan_record.specs.Numbers.{firstOf, sampleNumber, sizeNumber}
+use Rattle.plan_record.specs.Plan.{planOf, stagesFrom, planNumber}
 use Rattle.picture_state.specs.declared.State.{State}
 use Rattle.picture_state.specs.declared.Started.{Started}
 use Rattle.picture_state.specs.Numbers.{memoryNumber}

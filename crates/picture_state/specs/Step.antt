@@ -8,7 +8,7 @@ use lib.ListN.{length, getD}
 use Rattle.morph.specs.Picture.{Picture, applyPlan}
 use Rattle.morph.specs.Plan.{planCost}
 use Rattle.sample.specs.Samples.{Samples}
-use Rattle.plan.specs.Plan.{used, stagesOf, cellsNeeded, recordsNeeded, planAhead}
+use Rattle.plan_record.specs.Plan.{used, stagesOf, cellsNeeded, recordsNeeded, planAhead}
 use Rattle.stage.specs.Stage.{Memory, Whole}
 use Rattle.chain.specs.Run.{behind, Holds, allSound}
 use Rattle.picture_state.specs.declared.State.{State}

@@ -3,14 +3,14 @@
 ghost use mathlib.Core.Path.{_≡_};
 ghost use Prim.Native.Nat.{_≤_, min};
 ghost use lib.ListN.{length};
-ghost use Rattle.plan.specs.Plan.{planOf, stagesFrom, recordsNeeded};
+ghost use Rattle.plan_record.specs.Plan.{planOf, stagesFrom, recordsNeeded};
 ghost use Rattle.picture_state.specs.Numbers.{startNumber};
 ghost use Rattle.picture_state.specs.Start.{Start, firstState, noState, cleared, numbersNumber};
 use crate::Started;
 use crate::State;
 use crate::judging::judge_memory;
 use crate::judging::shorter;
-use plan::Plan;
+use plan_record::Plan;
 
 // The number of a start: 1, or stage by stage 3; 5, 4, 6.
 fn judge_start(
@@ -23,15 +23,15 @@ fn judge_start(
 ) -> u8
     ensures { λ r. ⌜ r ≡ startNumber plan sample width rows cells records ⌝ }
 {
-    let number = plan::judge(plan);
+    let number = plan_record::judge(plan);
     if number != 0 {
         return number;
     }
-    let number = plan::judge_sample(sample);
+    let number = plan_record::judge_sample(sample);
     if number != 0 {
         return number;
     }
-    let number = plan::judge_size(width, rows);
+    let number = plan_record::judge_size(width, rows);
     if number != 0 {
         return number;
     }
@@ -66,7 +66,7 @@ fn first_state(plan: Plan, sample: u8, width: usize, rows: usize) -> State
 fn not_started(number: u8) -> Started
     ensures { λ r. ⌜ (r .number ≡ number) × (r .state ≡ noState) ⌝ }
 {
-    let none = plan::empty();
+    let none = plan_record::empty();
     Started {
         number: number,
         state: first_state(none, 0, 0, 0),
@@ -90,7 +90,7 @@ pub fn start(
     if number != 0 {
         return not_started(number);
     }
-    let records = plan::records(plan, width);
+    let records = plan_record::records(plan, width);
     clear(records, starts);
     clear(records, lengths);
     Started {
@@ -112,7 +112,7 @@ pub fn start_numbers(
 ) -> Started
     ensures { λ r. ⌜ Start (numbersNumber count (now (stages .entry)) sample width rows cells (min (length (now (starts .entry))) (length (now (lengths .entry))))) (firstState (planOf (stagesFrom count (now (stages .entry)))) sample width rows) (recordsNeeded (planOf (stagesFrom count (now (stages .entry)))) width) (now (starts .entry)) (now (lengths .entry)) (now (starts .exit)) (now (lengths .exit)) r ⌝ }
 {
-    let reading = plan::read(count, stages);
+    let reading = plan_read::read(count, stages);
     let number = reading.number;
     if number != 0 {
         return not_started(number);

@@ -3,21 +3,21 @@
 ghost use mathlib.Core.Path.{_≡_};
 ghost use Prim.Native.Nat.{_≤_, min};
 ghost use lib.ListN.{length};
-ghost use Rattle.plan.specs.Plan.{used, recordNumber, recordsNeeded};
+ghost use Rattle.plan_record.specs.Plan.{used, recordNumber, recordsNeeded};
 ghost use Rattle.chain.specs.Run.{allSound};
 ghost use Rattle.picture_state.specs.Numbers.{memoryNumber, stateNumber, sharedNumber, offerNumber, drainNumber};
 use crate::State;
-use plan::Plan;
+use plan_record::Plan;
 
 // 0, or 6: for the cells and the records that are lent.
 pub fn judge_memory(plan: Plan, width: usize, cells: usize, records: usize) -> u8
     requires { ⌜ (plan .count ≤ 16) × (width ≤ 4096) ⌝ }
     ensures { λ r. ⌜ r ≡ memoryNumber plan width cells records ⌝ }
 {
-    if cells < plan::cells(plan, width) {
+    if cells < plan_record::cells(plan, width) {
         return 6;
     }
-    if records < plan::records(plan, width) {
+    if records < plan_record::records(plan, width) {
         return 6;
     }
     0
@@ -28,16 +28,16 @@ fn judge_state(state: State) -> u8
     ensures { λ r. ⌜ r ≡ stateNumber state ⌝ }
 {
     let plan = state.plan;
-    if plan::judge(plan) != 0 {
+    if plan_record::judge(plan) != 0 {
         return 12;
     }
-    if plan::judge_sample(state.sample) != 0 {
+    if plan_record::judge_sample(state.sample) != 0 {
         return 12;
     }
-    if plan::judge_size(state.width, state.rows) != 0 {
+    if plan_record::judge_size(state.width, state.rows) != 0 {
         return 12;
     }
-    if state.rows + plan::look_ahead(plan) < state.step {
+    if state.rows + plan_record::look_ahead(plan) < state.step {
         return 12;
     }
     0
@@ -55,7 +55,12 @@ fn records_sound<'a>(plan: Plan, width: usize, starts: &'a [u8], lengths: &'a [u
     while i < count {
         let stage = plan.stages[i];
         let hi = lo + width;
-        good = good & columns::sound(plan::size_of(stage), &starts[lo..hi], &lengths[lo..hi]);
+        good = good
+            & columns::sound(
+                plan_record::size_of(stage),
+                &starts[lo..hi],
+                &lengths[lo..hi],
+            );
         lo = hi;
         i += 1;
     }
@@ -162,7 +167,7 @@ pub fn judge_drain<'a>(
         return 10;
     }
     let plan = state.plan;
-    if state.rows + plan::look_ahead(plan) <= state.step {
+    if state.rows + plan_record::look_ahead(plan) <= state.step {
         return 10;
     }
     if out != state.width {

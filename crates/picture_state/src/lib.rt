@@ -5,7 +5,7 @@ ghost use mathlib.Core.Path.{_≡_};
 ghost use Prim.Native.Nat.{_<_};
 ghost use lib.ListN.{length};
 ghost use Rattle.picture_state.specs.Step.{saidOf, row, notYet, refused, nextState};
-use plan::Plan;
+use plan_record::Plan;
 
 mod begin; // begin.rt: starting a run
 pub mod judging; // judging.rt: which calls are refused

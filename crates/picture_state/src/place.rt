@@ -3,13 +3,13 @@
 ghost use mathlib.Core.Path.{_≡_};
 ghost use Prim.Native.Nat.{_≤_, _<_};
 ghost use lib.ListN.{getD, take};
-ghost use Rattle.plan.specs.Plan.{unused, sizeOf, cellsOf, total};
+ghost use Rattle.plan_record.specs.Plan.{unused, sizeOf, cellsOf, total};
 ghost use Rattle.picture_state.specs.ReadOut.{placedNumber};
 ghost use Rattle.picture_state.specs.Fit.{Accepted};
 use crate::State;
 use crate::judging::judge;
 use crate::judging::shorter;
-use plan::Plan;
+use plan_record::Plan;
 
 // The number of a read-out, but for the queue's place: so many values and positions.
 pub fn judge_place<'a>(
@@ -59,7 +59,7 @@ pub fn part_of(plan: Plan, stage: usize, width: usize) -> Part
     let mut before = plan;
     before.count = stage;
     Part {
-        cells: plan::cells(before, width),
-        places: plan::size_of(own),
+        cells: plan_record::cells(before, width),
+        places: plan_record::size_of(own),
     }
 }

@@ -9,7 +9,7 @@ use lib.Dec.{eqb}
 use lib.ListN.{length, take, drop, length-append, length-take, length-drop}
 use lib.Seq.{length-take-le}
 use Rattle.morph.proofs.Lists.{split}
-use Rattle.plan.specs.declared.Reading.{Reading}
+use Rattle.plan_record.specs.declared.Reading.{Reading}
 use Rattle.job_read.specs.Job.{planSectionNumber, planSection}
 use Rattle.job_read.proofs.Sections.{plan-read, section-number}
 

@@ -5,7 +5,7 @@ use Prim.Native.Nat.{ℕ, _≤_}
 use native.Mathlib.Omega.{arith}
 use borrow.Author.Tests.{eq-eqb}
 use lib.ListN.{getD}
-use Rattle.plan.specs.declared.Plan.{Plan}
+use Rattle.plan_record.specs.declared.Plan.{Plan}
 use Rattle.picture_state.specs.Start.{firstState}
 use Rattle.job_read.specs.declared.Head.{Head}
 use Rattle.job_read.specs.Job.{headAnswered}

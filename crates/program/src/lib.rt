@@ -5,14 +5,14 @@
 ghost use mathlib.Core.Path.{_≡_};
 ghost use Prim.Native.Nat.{_+_, _≤_};
 ghost use lib.ListN.{length};
-ghost use Rattle.plan.specs.Plan.{planAhead};
+ghost use Rattle.plan_record.specs.Plan.{planAhead};
 ghost use Rattle.picture_state.specs.Start.{firstState};
 ghost use Rattle.course.specs.Course.{Gone, Over};
 use course::Course;
 use course::Turn;
 use job::Head;
-use plan::Plan;
-use plan::Reading;
+use plan_record::Plan;
+use plan_record::Reading;
 
 // ---- the end
 

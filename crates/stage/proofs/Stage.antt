@@ -25,8 +25,8 @@ use Rattle.sample.specs.Samples.{Samples}
 use Rattle.queue.proofs.Steps.{next-queue, next-cost}
 use Rattle.columns.specs.Columns.{Lent, columnAt, RecordsMoved, RowRead, reads, frontAt}
 use Rattle.columns.proofs.Column.{front-column}
-use Rattle.plan.specs.declared.Stage.{Stage}
-use Rattle.plan.specs.Plan.{filterOf, sizeOf, belowOf}
+use Rattle.plan_record.specs.declared.Stage.{Stage}
+use Rattle.plan_record.specs.Plan.{filterOf, sizeOf, belowOf}
 use Rattle.stage.specs.Stage.{Memory, Whole, StageHolds, RowTaken, StageMoved, StageStep}
 
 -- the window reaches no further than its extents

@@ -11,8 +11,8 @@ use Rattle.morph.specs.Plan.{columnQueue, stageCost}
 use Rattle.sample.specs.Samples.{Samples}
 use Rattle.columns.specs.Columns.{Lent, RowRead, columnAt}
 use Rattle.row.specs.Row.{Across}
-use Rattle.plan.specs.declared.Stage.{Stage}
-use Rattle.plan.specs.Plan.{filterOf, sizeOf, belowOf}
+use Rattle.plan_record.specs.declared.Stage.{Stage}
+use Rattle.plan_record.specs.Plan.{filterOf, sizeOf, belowOf}
 
 -- The memory lent: cells, a value and a position each, and column records, a start and a length each.
 pub record Memory (A : Type 0) : Type 0 where

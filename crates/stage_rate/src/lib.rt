@@ -5,10 +5,11 @@ ghost use Prim.Native.Nat.{_+_, _≤_, _<_};
 ghost use lib.ListN.{length};
 ghost use Rattle.sample.specs.Samples.{rates};
 ghost use Rattle.columns.specs.Columns.{Lent, RowRead};
-ghost use Rattle.plan.specs.Plan.{Small, sizeOf, belowOf};
+ghost use Rattle.plan_record.specs.Plan.{Small, sizeOf, belowOf};
 ghost use Rattle.stage.specs.Stage.{RowTaken, StageMoved, StageStep};
 use morph::Kind;
-use plan::Stage;
+use plan_record::Stage;
+use plan_record::size_of;
 
 // The columns read the row. The kind is chosen here once, so that no loop has to ask for it.
 fn read_columns(
@@ -64,13 +65,13 @@ fn take_row(
     let kind = stage.kind;
     let a = row_rate::across(
         kind,
-        plan::back_across(stage),
-        plan::ahead_across(stage),
+        plan_record::back_across(stage),
+        plan_record::ahead_across(stage),
         row,
     );
     let c = read_columns(
         kind,
-        plan::size_of(stage),
+        size_of(stage),
         values,
         positions,
         starts,
@@ -98,7 +99,7 @@ fn move_on(
     if t < rows {
         return take_row(stage, t, values, positions, starts, lengths, row);
     }
-    columns::drain(plan::size_of(stage), &positions[..], starts, lengths, t);
+    columns::drain(size_of(stage), &positions[..], starts, lengths, t);
     0
 }
 
@@ -116,7 +117,7 @@ pub fn step(
     requires { ⌜ Small stage × (rows ≤ 65535) × Lent (sizeOf stage) (length (now row)) (now positions) (now starts) (now lengths) × (length (now values) ≡ length (now positions)) ⌝ }
     ensures { λ r. ⌜ StageStep rates stage rows t (record { values = now (values .entry); positions = now (positions .entry); starts = now (starts .entry); lengths = now (lengths .entry) }) (now (row .entry)) (record { values = now (values .exit); positions = now (positions .exit); starts = now (starts .exit); lengths = now (lengths .exit) }) (now (row .exit)) r ⌝ }
 {
-    let ahead = plan::below(stage);
+    let ahead = plan_record::below(stage);
     if rows + ahead <= t {
         return 0;
     }
@@ -125,7 +126,7 @@ pub fn step(
         return c;
     }
     columns_rate::fronts(
-        plan::size_of(stage),
+        size_of(stage),
         &values[..],
         &positions[..],
         &starts[..],

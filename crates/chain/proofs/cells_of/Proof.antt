@@ -2,7 +2,7 @@
 use mathlib.Core.Path.{ap}
 use Prim.Native.Nat.{_*_}
 use native.Mathlib.Omega.{arith}
-use Rattle.plan.proofs.Laws.{mul-most}
+use Rattle.plan_record.proofs.Laws.{mul-most}
 use borrow.Author.Needs.{needs}
 use Rattle.chain.proofs.cells_of.Statement.{statement}
 use Rattle.chain.proofs.cells_of.Tie as tie

@@ -4,7 +4,7 @@ use denote.Ref.{now}
 use Prim.Native.Nat.{ℕ}
 use native.Mathlib.Omega.{arith}
 use borrow.Author.Tests.{lt-ltb, le-ltb}
-use Rattle.plan.specs.Plan.{cellsNeeded}
+use Rattle.plan_record.specs.Plan.{cellsNeeded}
 use Rattle.job_read.specs.Job.{headNumber, headAnswered}
 use Rattle.job_read.proofs.Sections.{head-number, head-refused}
 use Rattle.groups.proofs.Groups.{head-narrow, head-width, image-short, image-head, image-cells, image-narrow}

@@ -3,8 +3,8 @@ use mathlib.Core.Path.{sym, ap, _∙_}
 use denote.Ref.{now}
 use Prim.Native.Nat.{ℕ, _*_}
 use native.Mathlib.Omega.{arith}
-use Rattle.plan.specs.Plan.{countNumber}
-use Rattle.plan.proofs.Named.{counted}
+use Rattle.plan_record.specs.Plan.{countNumber}
+use Rattle.plan_record.proofs.Named.{counted}
 use Rattle.groups.proofs.Groups.{asked-missing, asked-refused, asked-stages}
 use borrow.Author.Needs.{needs}
 use Rattle.groups.proofs.stages_asked.Statement.{statement}

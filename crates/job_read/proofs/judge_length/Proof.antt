@@ -3,7 +3,7 @@ use mathlib.Core.Path.{_≡_, ap}
 use denote.Ref.{now}
 use Prim.Native.Nat.{ℕ, _*_}
 use Rattle.job_read.specs.Layout.{rowBytes}
-use Rattle.plan.proofs.Laws.{mul-most}
+use Rattle.plan_record.proofs.Laws.{mul-most}
 use Rattle.job_read.proofs.Sections.{rows-missing, rows-over, rows-exact}
 use borrow.Author.Needs.{needs}
 use native.Mathlib.Omega.{arith}

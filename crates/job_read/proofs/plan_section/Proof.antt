@@ -3,8 +3,8 @@ use mathlib.Core.Path.{_≡_, sym, ap, _∙_}
 use denote.Ref.{now}
 use Prim.Native.Nat.{ℕ, _+_, _-_, _*_}
 use lib.ListN.{getD, take, drop, length-take, length-drop}
-use Rattle.plan.specs.Plan.{countNumber, planRead}
-use Rattle.plan.proofs.Named.{counted}
+use Rattle.plan_record.specs.Plan.{countNumber, planRead}
+use Rattle.plan_record.proofs.Named.{counted}
 use Rattle.job_read.proofs.Sections.{section-refused, section-empty, section-count, section-missing, section-read}
 use borrow.Author.Needs.{needs}
 use native.Mathlib.Omega.{arith}

@@ -3,8 +3,8 @@ use mathlib.Core.Path.{_≡_, sym, ap, _∙_}
 use denote.Ref.{now}
 use Prim.Native.Nat.{ℕ}
 use lib.ListN.{length, set, length-map, length-set}
-use Rattle.plan.proofs.Named.{judged-count}
-use Rattle.plan.proofs.Numbers.{size-accepted}
+use Rattle.plan_record.proofs.Named.{judged-count}
+use Rattle.plan_record.proofs.Numbers.{size-accepted}
 use Rattle.job_write.proofs.Writing.{written, write-plan, write-sample, write-size, write-short, write-fine, wrote-refused, wrote}
 use borrow.Author.Needs.{needs}
 use native.Mathlib.Omega.{arith}

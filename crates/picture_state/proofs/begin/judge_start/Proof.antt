@@ -1,6 +1,6 @@
 -- `judge_start` meets its contract: each way out is the first number that is not 0.
 use mathlib.Core.Path.{sym, _∙_}
-use Rattle.plan.proofs.Numbers.{size-accepted}
+use Rattle.plan_record.proofs.Numbers.{size-accepted}
 use Rattle.picture_state.proofs.Numbers.{plan-accepted}
 use Rattle.picture_state.proofs.Starting.{start-plan, start-sample, start-size, start-memory}
 use borrow.Author.Needs.{needs}

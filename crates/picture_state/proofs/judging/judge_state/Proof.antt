@@ -2,7 +2,7 @@
 use native.Mathlib.Omega.{arith}
 use mathlib.Core.Path.{sym, _∙_}
 use borrow.Author.Tests.{lt-ltb, le-ltb, eq-eqb, ne-eqb}
-use Rattle.plan.proofs.Numbers.{size-accepted}
+use Rattle.plan_record.proofs.Numbers.{size-accepted}
 use Rattle.picture_state.specs.Numbers.{stateNumber}
 use Rattle.picture_state.proofs.Numbers.{plan-accepted, ahead-few}
 use borrow.Author.Needs.{needs}

@@ -1,0 +1,162 @@
+-- What the records mean to the definitions of a picture: the named plans are morph's, the look-ahead is morph's, and an accepted plan is one
+-- that is judged 0.
+use mathlib.Core.Path.{_≡_, refl, sym, ap, _∙_}
+use mathlib.Core.Bool.{_||_}
+use mathlib.Core.List.{List, [], _∷_, _++_, map, append-assoc}
+use Prim.Native.Nat.{ℕ, zero, suc, _-_, _*_, _≤_, _<_}
+use native.Mathlib.Omega.{arith}
+use borrow.Author.Tests.{ltb-false, eqb-false, le-ltb, eq-eqb, ne-eqb}
+use lib.Dec.{ltb, eqb}
+use lib.ListN.{length, getD, replicate, List·getD-append}
+use Rattle.morph.specs.declared.Kind.{Kind}
+use Rattle.morph.specs.declared.Kind.the-variants.{Erosion, Dilation}
+use Rattle.morph.specs.Order.{Order}
+use Rattle.morph.specs.Picture.{Stage as Filter, lookAhead, opening, closing, alternating}
+use Rattle.morph.proofs.Lists.{neither, length-tabulate, getD-tabulate}
+use Rattle.plan_record.specs.declared.Stage.{Stage}
+use Rattle.plan_record.specs.declared.Plan.{Plan}
+use Rattle.plan_record.specs.declared.Reading.{Reading}
+use Rattle.plan_record.specs.Plan.{unused, planOf, used, Small, filterOf, stagesOf, belowOf, total, planAhead, countNumber, extentNumber, orderNumber, kindNumber, recordStageNumber, recordStagesNumber, recordNumber, stageNumber, stageFrom, stagesFrom, stagesNumber, planNumber, answered, pairStages, openingStages, closingStages, sequenceStages, alternatingStages}
+use Rattle.plan_record.proofs.Numbers.{first-one, first-zero, all-zero, none-refused, given-zero}
+use Rattle.plan_record.proofs.Laws.{used-plan, count-accepted, count-zero}
+
+-- ---- what an accepted plan has
+
+pub small : (s : Stage) → recordStageNumber s ≡ 0 → Small s
+small s h =
+    let l = ltb 31 (s .left) in
+    let r = ltb 31 (s .right) in
+    let u = ltb 31 (s .up) in
+    let d = ltb 31 (s .down) in
+    let p = neither (l || r || u) d (given-zero 2 (l || r || u || d) h) in
+    let q = neither (l || r) u (p .0) in
+    let t = neither l r (q .0) in
+    record {
+      left = ltb-false 31 (s .left) (t .0);
+      right = ltb-false 31 (s .right) (t .1);
+      up = ltb-false 31 (s .up) (q .1);
+      down = ltb-false 31 (s .down) (p .1);
+    }
+
+pub counted : (count : ℕ) → countNumber count ≡ 0 → (1 ≤ count) × (count ≤ 16)
+counted count h =
+    let p = neither (eqb count 0) (ltb 16 count) (given-zero 0 (eqb count 0 || ltb 16 count) h) in
+    let n = eqb-false count 0 (p .0) in
+    (omega (arith, n), ltb-false 16 count (p .1))
+
+pub judged-count : (plan : Plan) → recordNumber plan ≡ 0 → (1 ≤ plan .count) × (plan .count ≤ 16)
+unfolding recordNumber
+judged-count plan h = counted (plan .count) (count-zero (plan .count) (recordStagesNumber plan) h .0)
+
+pub judged-stage : (plan : Plan) → recordNumber plan ≡ 0 → (i : ℕ) → i < plan .count → Small (getD (plan .stages) i unused)
+unfolding recordNumber recordStagesNumber
+judged-stage plan h i k =
+    let z = all-zero (plan .count) (λ i. recordStageNumber (getD (plan .stages) i unused)) (count-zero (plan .count) (recordStagesNumber plan) h .1) i k in
+    small (getD (plan .stages) i unused) z
+
+-- ---- named plans
+
+module _ {A : Type 0} (O : Order A) where
+  pub stages-plan : (ss : List Stage) → stagesOf O (planOf ss) ≡ map (filterOf O) ss
+  stages-plan ss = ap (map (filterOf O)) (used-plan ss)
+
+  pub opening-stages : (a b c d : ℕ) → stagesOf O (planOf (openingStages a b c d)) ≡ opening O a b c d
+  opening-stages a b c d = refl
+
+  pub closing-stages : (a b c d : ℕ) → stagesOf O (planOf (closingStages a b c d)) ≡ closing O a b c d
+  closing-stages a b c d = refl
+
+  map-append : (ss ts : List Stage) → map (filterOf O) (ss ++ ts) ≡ map (filterOf O) ss ++ map (filterOf O) ts
+  map-append [] ts = refl
+  map-append (s ∷ ss) ts = rw (map-append ss ts)
+
+  filters-alternating : (n : ℕ) → map (filterOf O) (alternatingStages n) ≡ alternating O n
+  unfolding alternatingStages alternating
+  filters-alternating zero = refl
+  filters-alternating (suc n) =
+      rw (map-append (alternatingStages n) (sequenceStages (suc n)), filters-alternating n)
+      (sym (append-assoc (alternating O n) (opening O (suc n) (suc n) (suc n) (suc n)) (closing O (suc n) (suc n) (suc n) (suc n))))
+
+  pub alternating-stages : (n : ℕ) → stagesOf O (planOf (alternatingStages n)) ≡ alternating O n
+  alternating-stages n = stages-plan (alternatingStages n) ∙ filters-alternating n
+
+  ahead-map : (ss : List Stage) → lookAhead (map (filterOf O) ss) ≡ total belowOf ss
+  unfolding lookAhead
+  ahead-map [] = refl
+  ahead-map (s ∷ ss) = rw (ahead-map ss)
+
+  -- the plan's look-ahead is that of its stages, in every order
+  pub look-ahead-plan : (plan : Plan) → lookAhead (stagesOf O plan) ≡ planAhead plan
+  look-ahead-plan plan = ahead-map (used plan)
+
+extents-zero : (bytes : List ℕ) (at : ℕ) → stageNumber bytes at ≡ 0 → recordStageNumber (stageFrom bytes at) ≡ 0
+extents-zero bytes at h =
+    let e = recordStageNumber (stageFrom bytes at) in
+    sym (first-one e) ∙ first-zero (kindNumber (getD bytes at 0)) (e ∷ []) h .1
+
+-- ---- an accepted reading is judged 0 as a record too
+
+module _ (ss : List Stage) (few : length ss ≤ 16) (some : 1 ≤ length ss) (each : (i : ℕ) → i < length ss → recordStageNumber (getD ss i unused) ≡ 0) where
+  pub judged-plan : recordNumber (planOf ss) ≡ 0
+  unfolding recordNumber recordStagesNumber
+  judged-plan =
+      let some : 0 ≡ countNumber (length ss) = simp (ne-eqb (length ss) 0 (λ e. omega arith), le-ltb 16 (length ss) few) in
+      let all : recordStagesNumber (planOf ss) ≡ 0 = none-refused (length ss) (λ i. recordStageNumber (getD (ss ++ replicate (16 - length ss) unused) i unused)) (λ i k. ap recordStageNumber (List·getD-append ss (replicate (16 - length ss) unused) unused i k) ∙ each i k) in
+      sym (count-accepted (length ss) (recordStagesNumber (planOf ss)) some refl (sym all))
+
+pub judged-reading : (count : ℕ) (bytes : List ℕ) → planNumber count bytes ≡ 0 → recordNumber (planOf (stagesFrom count bytes)) ≡ 0
+unfolding planNumber stagesFrom stagesNumber
+judged-reading count bytes h =
+    let z = count-zero count (stagesNumber count bytes) h in
+    let n = counted count (z .0) in
+    let l : length (stagesFrom count bytes) ≡ count = length-tabulate count (λ i. stageFrom bytes (i * 5)) in
+    judged-plan (stagesFrom count bytes) (omega arith) (omega arith)
+    (λ i k.
+    let m : i < count = omega arith in
+    let s = all-zero count (λ i. stageNumber bytes (i * 5)) (z .1) i m in
+    ap recordStageNumber (getD-tabulate count (λ i. stageFrom bytes (i * 5)) i unused m) ∙ extents-zero bytes (i * 5) s)
+
+-- ---- the named plans, said of their calls' promises
+
+accepted-plan : {r : Reading} (n : ℕ) (plan : Plan) → r ≡ answered n plan → r .number ≡ 0 → (r .plan ≡ plan) × (n ≡ 0)
+accepted-plan n plan e z =
+    let m : n ≡ 0 = sym (ap (λ r. r .number) e) ∙ z in
+    (ap (λ r. r .plan) e ∙ simp (eq-eqb n 0 m), m)
+
+each-of-two : (first second : Kind) (a b c d : ℕ) → extentNumber a b c d ≡ 0 → recordNumber (planOf (pairStages first second a b c d)) ≡ 0
+each-of-two first second a b c d e = judged-plan (pairStages first second a b c d) (omega arith) (omega arith) each
+  where
+    each : (i : ℕ) → i < 2 → recordStageNumber (getD (pairStages first second a b c d) i unused) ≡ 0
+    each zero h = e
+    each (suc zero) h = e
+    each (suc (suc i)) h = absurd (omega arith)
+
+ordered : (n : ℕ) → orderNumber n ≡ 0 → recordNumber (planOf (alternatingStages n)) ≡ 0
+unfolding recordNumber recordStagesNumber alternatingStages
+ordered zero e = absurd (omega arith)
+ordered (suc zero) e = refl
+ordered (suc (suc zero)) e = refl
+ordered (suc (suc (suc zero))) e = refl
+ordered (suc (suc (suc (suc zero)))) e = refl
+ordered (suc (suc (suc (suc (suc n))))) e = absurd (let p = neither (eqb (suc (suc (suc (suc (suc n))))) 0) (ltb 4 (suc (suc (suc (suc (suc n)))))) (given-zero 16 _ e) in omega (arith, ltb-false 4 (suc (suc (suc (suc (suc n))))) (p .1)))
+
+-- An accepted answer is a plan that is judged 0, and in every order it goes through the stages that the name means.
+pub record Means (r : Reading) (named : (A : Type 0) → Order A → List (Filter A)) : Type 1 where
+  pub judged : recordNumber (r .plan) ≡ 0
+  pub stages : (A : Type 0) (O : Order A) → stagesOf O (r .plan) ≡ named A O
+
+module _ {r : Reading} (accepted : r .number ≡ 0) where
+  pub opening-means : (a b c d : ℕ) → r ≡ answered (extentNumber a b c d) (planOf (openingStages a b c d)) → Means r (λ A O. opening O a b c d)
+  opening-means a b c d e =
+      let p = accepted-plan (extentNumber a b c d) (planOf (openingStages a b c d)) e accepted in
+      record { judged = ap recordNumber (p .0) ∙ each-of-two Erosion Dilation a b c d (p .1); stages = λ A O. ap (stagesOf O) (p .0) ∙ opening-stages O a b c d }
+
+  pub closing-means : (a b c d : ℕ) → r ≡ answered (extentNumber a b c d) (planOf (closingStages a b c d)) → Means r (λ A O. closing O a b c d)
+  closing-means a b c d e =
+      let p = accepted-plan (extentNumber a b c d) (planOf (closingStages a b c d)) e accepted in
+      record { judged = ap recordNumber (p .0) ∙ each-of-two Dilation Erosion a b c d (p .1); stages = λ A O. ap (stagesOf O) (p .0) ∙ closing-stages O a b c d }
+
+  pub alternating-means : (n : ℕ) → r ≡ answered (orderNumber n) (planOf (alternatingStages n)) → Means r (λ A O. alternating O n)
+  alternating-means n e =
+      let p = accepted-plan (orderNumber n) (planOf (alternatingStages n)) e accepted in
+      record { judged = ap recordNumber (p .0) ∙ ordered n (p .1); stages = λ A O. ap (stagesOf O) (p .0) ∙ alternating-stages O n }
