@@ -8,7 +8,7 @@ use plan::Stage;
 
 mod greys; // greys.rt: a plan of 3 stages, step by step
 mod rates; // rates.rt: case 12
-mod starts; // starts.rt: case 11
+mod starts; // starts.rt: case 11, and what to lend
 
 fn started(name: &[u8], s: Started) {
     show::text(b"picture start, ");
@@ -56,6 +56,7 @@ fn main() {
     starts::of_extents();
     starts::of_sizes();
     starts::of_counts();
+    starts::of_needs();
     rates::case_12();
     greys::three_stages();
     greys::other_states();

@@ -1,4 +1,4 @@
-// Which starts of a picture are accepted.
+// Which starts of a picture are accepted, and what to lend for it.
 
 fn extents(name: &[u8], left: u8, right: u8, up: u8, down: u8) {
     let mut starts = [0u8; 1];
@@ -23,6 +23,22 @@ fn stages(name: &[u8], count: u8) {
     let mut lengths = [0u8; 16];
     let s = picture::start_numbers(count, &numbers, 0, 1, 1, 16, &mut starts, &mut lengths);
     crate::started(name, s);
+}
+
+// What to lend for a dilation whose extents are alike.
+fn needs(name: &[u8], extent: u8, width: usize) {
+    let n = plan::needs(crate::single(extent, extent, extent, extent), width);
+    show::text(b"plan needs, ");
+    show::text(name);
+    show::text(b": ");
+    show::byte(n.number);
+    show::text(b", cells ");
+    show::number(n.cells);
+    show::text(b", records ");
+    show::number(n.records);
+    show::text(b", look-ahead ");
+    show::number(n.ahead);
+    show::text(b"\n");
 }
 
 // Extents up to 31 are accepted.
@@ -52,4 +68,11 @@ pub fn of_counts() {
     stages(b"16 stages", 16);
     stages(b"17 stages", 17);
     stages(b"no stage", 0);
+}
+
+// 3 before 4; a refusal tells zeros.
+pub fn of_needs() {
+    needs(b"extents 31, width 4096", 31, 4096);
+    needs(b"extents 32 before width 0", 32, 0);
+    needs(b"width 4097", 1, 4097);
 }
