@@ -56,7 +56,7 @@ fn rate_row(r: Rates, row: [f32; 3]) -> Rates {
         &mut lengths,
     );
     let a = s.answer;
-    crate::answer(a);
+    show::answer(a);
     show::text(b"; out");
     floats(out);
     show::text(b"\n");

@@ -5,7 +5,7 @@ fn extents(name: &[u8], left: u8, right: u8, up: u8, down: u8) {
     let mut lengths = [0u8; 1];
     let p = crate::single(left, right, up, down);
     let s = picture::start(p, 0, 1, 1, 63, &mut starts, &mut lengths);
-    crate::started(name, s);
+    show::started(name, s);
 }
 
 fn size(name: &[u8], sample: u8, width: usize, rows: usize, cells: usize) {
@@ -13,7 +13,7 @@ fn size(name: &[u8], sample: u8, width: usize, rows: usize, cells: usize) {
     let mut lengths = io::buffer();
     let p = crate::single(1, 0, 0, 0);
     let s = picture::start(p, sample, width, rows, cells, &mut starts, &mut lengths);
-    crate::started(name, s);
+    show::started(name, s);
 }
 
 // A plan in numbers, of erosions whose extents are all 0.
@@ -22,7 +22,7 @@ fn stages(name: &[u8], count: u8) {
     let mut starts = [0u8; 16];
     let mut lengths = [0u8; 16];
     let s = picture::start_numbers(count, &numbers, 0, 1, 1, 16, &mut starts, &mut lengths);
-    crate::started(name, s);
+    show::started(name, s);
 }
 
 // What to lend for a dilation whose extents are alike.

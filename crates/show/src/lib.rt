@@ -1,5 +1,7 @@
-// What the test programs write: words, numbers, floats by their bytes, and what a step that gave no value says.
+// What the test programs write: words, numbers, floats by their bytes, and what a call answers.
 use libc::STDOUT_FILENO;
+use picture::Answer;
+use picture::Started;
 
 pub fn text(t: &[u8]) {
     io::write_all(STDOUT_FILENO, t);
@@ -42,4 +44,34 @@ pub fn refused(no: u8, place: usize) {
     byte(no);
     text(b" at ");
     number(place);
+}
+
+// A picture's start.
+pub fn started(name: &[u8], s: Started) {
+    text(b"picture start, ");
+    text(name);
+    text(b": ");
+    byte(s.number);
+    text(b"\n");
+}
+
+// A picture's step.
+pub fn answer(a: Answer) {
+    match a {
+        Answer::Row {
+            number,
+            comparisons,
+        } => {
+            text(b"row ");
+            crate::number(number);
+            text(b", comparisons ");
+            crate::number(comparisons);
+        }
+        Answer::NotYet { comparisons } => {
+            not_yet(comparisons);
+        }
+        Answer::Refused { number, column } => {
+            refused(number, column);
+        }
+    }
 }

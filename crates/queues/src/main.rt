@@ -1,4 +1,4 @@
-// A plan of 3 stages over a picture of grey bytes, step by step with its queues, and calls out of turn.
+// A plan of 3 stages over a picture of grey bytes, step by step with its queues, and calls out of turn. The output row is shown after every call: it stays as it was where no row came.
 use picture::State;
 use picture::grey::ReadOut;
 
@@ -32,7 +32,7 @@ fn begin(name: &[u8], sample: u8, cells: usize) -> Greys {
     let mut starts = [0u8; 9];
     let mut lengths = [0u8; 9];
     let s = picture::start_numbers(3, &numbers, sample, 3, 3, cells, &mut starts, &mut lengths);
-    crate::started(name, s);
+    show::started(name, s);
     let state = s.state;
     Greys {
         state: state,
@@ -128,7 +128,7 @@ fn offer(r: Greys, row: &[u8]) -> Greys {
         &mut lengths,
     );
     let a = s.answer;
-    crate::answer(a);
+    show::answer(a);
     let state = s.state;
     let next = Greys {
         state: state,
@@ -172,7 +172,7 @@ fn drain(r: Greys) -> Greys {
         &mut lengths,
     );
     let a = s.answer;
-    crate::answer(a);
+    show::answer(a);
     let state = s.state;
     let next = Greys {
         state: state,
@@ -206,7 +206,7 @@ fn too_few(r: Greys) {
         &mut lengths,
     );
     let a = s.answer;
-    crate::answer(a);
+    show::answer(a);
     show::text(b"\n");
 }
 
@@ -220,7 +220,7 @@ fn nowhere(r: Greys) {
 }
 
 // A picture of 3 rows through the plan, with calls out of turn between them.
-pub fn three_stages() {
+fn three_stages() {
     begin(b"three stages on 20 cells", 0, 20);
     let r0 = begin(b"three stages on 21 cells", 0, 21);
     too_few(r0);
@@ -234,9 +234,14 @@ pub fn three_stages() {
 }
 
 // A state of floats on the grey calls, and a state that was refused at its start.
-pub fn other_states() {
+fn other_states() {
     let f = begin(b"three stages of floats", 1, 21);
     drain(read(f, [1, 2, 3]));
     let n = begin(b"sample kind 2", 2, 21);
     drain(read(n, [1, 2, 3]));
+}
+
+fn main() {
+    three_stages();
+    other_states();
 }
