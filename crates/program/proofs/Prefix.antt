@@ -1,17 +1,21 @@
--- Laws of the plan section's reading: what was read stands at the front of the room for it, and its plan is of at most 16 stages.
+-- Laws of the plan section's reading: what was read stands at the front of the room for it, and a plan that is not refused is one that a start takes.
 use mathlib.Core.Path.{_≡_, refl, sym, ap, _∙_}
-use mathlib.Core.List.{List, _++_}
+use mathlib.Core.List.{List, [], _∷_, _++_}
 use Prim.Native.Nat.{ℕ, _+_, _≤_}
 use native.Mathlib.Omega.{arith}
 use borrow.Author.Tests.{eqb-true}
 use borrow.Rule.Slice.PartMut.{midOf, putMid}
 use lib.Dec.{eqb}
-use lib.ListN.{length, take, drop, length-append, length-take, length-drop}
+use lib.ListN.{length, getD, take, drop, length-append, length-take, length-drop}
 use lib.Seq.{length-take-le}
 use Rattle.morph.proofs.Lists.{split}
+use Rattle.plan_record.specs.declared.Stage.{Stage}
 use Rattle.plan_record.specs.declared.Reading.{Reading}
+use Rattle.plan_record.specs.Plan.{planOf, countNumber, recordNumber, stagesFrom, stagesNumber, planNumber}
+use Rattle.plan_record.proofs.Numbers.{first-one, first-skip}
+use Rattle.plan_record.proofs.Named.{judged-reading}
 use Rattle.job_read.specs.Job.{planSectionNumber, planSection}
-use Rattle.job_read.proofs.Sections.{plan-read, section-number}
+use Rattle.job_read.proofs.Sections.{plan-there, plan-read, section-number}
 
 pub section-few : (bytes : List ℕ) {section : Reading} → section ≡ planSection bytes → section .plan .count ≤ 16
 unfolding planSection
@@ -19,6 +23,26 @@ section-few bytes {section} e =
     split (eqb (planSectionNumber bytes) 0)
     (λ p. plan-read bytes e (section-number bytes e ∙ eqb-true (planSectionNumber bytes) 0 p) .few)
     (λ p. let c : section .plan .count ≡ 0 = ap (λ s. s .plan .count) e ∙ rw p refl in omega arith)
+
+pub section-judged : (bytes : List ℕ) {section : Reading} → section ≡ planSection bytes → section .number ≡ 0 → recordNumber (section .plan) ≡ 0
+unfolding planNumber
+section-judged bytes {section} e z =
+    let count = getD bytes 0 0 in
+    let stages = stagesNumber count (drop 1 bytes) in
+    let r = plan-read bytes e z in
+    let t = plan-there bytes (r .zero) in
+    let n : planNumber count (drop 1 bytes) ≡ 0 = first-skip (countNumber count) (stages ∷ []) (t .few) ∙ first-one stages ∙ t .judged in
+    ap recordNumber (r .plan) ∙ judged-reading count (drop 1 bytes) n
+
+plan-whole : (ss : List Stage) → planOf ss .count ≤ length (planOf ss .stages)
+plan-whole ss = rw length-append (omega arith)
+
+pub section-whole : (bytes : List ℕ) {section : Reading} → section ≡ planSection bytes → section .plan .count ≤ length (section .plan .stages)
+unfolding planSection
+section-whole bytes {section} e =
+    split (eqb (planSectionNumber bytes) 0)
+    (λ p. rw (plan-read bytes e (section-number bytes e ∙ eqb-true (planSectionNumber bytes) 0 p) .plan) (plan-whole (stagesFrom (getD bytes 0 0) (drop 1 bytes))))
+    (λ p. let q : section .plan ≡ planOf [] = ap (λ s. s .plan) e ∙ rw p refl in rw q (plan-whole []))
 
 -- ---- the bytes that were read, at the front of the room for them
 

@@ -5,7 +5,8 @@
 ghost use mathlib.Core.Path.{_≡_};
 ghost use Prim.Native.Nat.{_+_, _≤_};
 ghost use lib.ListN.{length};
-ghost use Rattle.plan_record.specs.Plan.{planAhead};
+ghost use Rattle.plan_record.specs.Plan.{planAhead, recordNumber};
+ghost use Rattle.picture_state.specs.Numbers.{startNumber};
 ghost use Rattle.picture_state.specs.Start.{firstState};
 ghost use Rattle.course.specs.Course.{Gone, Over};
 use course::Course;
@@ -32,7 +33,7 @@ fn refuse(to: i32, number: u8)
 
 // The plan section: its stages are read once the count is judged.
 fn read_plan(from: i32) -> Reading
-    ensures { λ r. ⌜ r .plan .count ≤ 16 ⌝ }
+    ensures { λ r. ⌜ (r .plan .count ≤ 16) × (r .plan .count ≤ length (r .plan .stages)) × (r .number ≡ 0 → recordNumber (r .plan) ≡ 0) ⌝ }
 {
     let mut bytes = section();
     let got = io::read_full(from, &mut bytes[..1]);
@@ -46,9 +47,9 @@ fn read_plan(from: i32) -> Reading
     job::plan_section(&bytes[..all])
 }
 
-// The rows and the drains.
+// The rows and the drains, of a plan and a head that are accepted.
 fn run_rows(from: i32, to: i32, plan: Plan, head: Head) -> Turn
-    requires { ⌜ (plan .count ≤ 16) × (head .sample ≤ 1) × (head .width ≤ 4096) ⌝ }
+    requires { ⌜ (plan .count ≤ 16) × (head .sample ≤ 1) × (head .width ≤ 4096) × (startNumber plan (head .sample) (head .width) (head .rows) 4096 4096 ≡ 0) ⌝ }
     ensures { λ r. ⌜ Gone (head .rows + planAhead plan) (firstState plan (head .sample) (head .width) (head .rows)) r ⌝ }
 {
     if head.sample == 0 {

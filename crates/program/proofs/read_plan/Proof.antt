@@ -5,7 +5,7 @@ use mathlib.Core.Path.{sym}
 use mathlib.Core.List.{_++_}
 use lib.ListN.{drop}
 use lib.Seq.{length-take-le}
-use Rattle.program.proofs.Prefix.{section-few, read-in, read-long, section-long, stages-in, both-few, both-in, both-long}
+use Rattle.program.proofs.Prefix.{section-few, section-whole, section-judged, read-in, read-long, section-long, stages-in, both-few, both-in, both-long}
 use borrow.Author.Needs.{needs}
 use Rattle.program.proofs.read_plan.Statement.{statement}
 use Rattle.program.proofs.read_plan.Tie as tie
@@ -57,7 +57,7 @@ plan-section-requires : tie.Need-plan-section-requires
 plan-section-requires c κs = search needs
 
 returns : tie.Need-returns
-returns c = section-few _ (c .plan-section .ensures)
+returns c = let e = c .plan-section .ensures in (section-few _ e, section-whole _ e, section-judged _ e)
 
 add-end : tie.Need-add-end
 add-end c =
@@ -122,7 +122,7 @@ plan-section-requires-2 : tie.Need-plan-section-requires-2
 plan-section-requires-2 c κs = search needs
 
 returns-2 : tie.Need-returns-2
-returns-2 c = section-few _ (c .plan-section2 .ensures)
+returns-2 c = let e = c .plan-section2 .ensures in (section-few _ e, section-whole _ e, section-judged _ e)
 
 pub read-plan-spec : {M : Type 1} → statement M
 read-plan-spec =

@@ -1,7 +1,7 @@
 -- The groups one after another.
 use borrow.Author.Needs.{needs}
 use Rattle.course.proofs.Laws.{gone-over}
-use Rattle.program.proofs.Whole.{head-known}
+use Rattle.program.proofs.Whole.{head-known, start-known}
 use Rattle.program.proofs.run.Statement.{statement}
 use Rattle.program.proofs.run.Tie as tie
 
@@ -39,7 +39,11 @@ write-all-requires : tie.Need-write-all-requires
 write-all-requires c κs = search needs
 
 run-rows-requires : tie.Need-run-rows-requires
-run-rows-requires c κs = (c .before .before .before .before .before .before .before .before .before .before .before .before .before .before .read-plan .ensures, head-known _ _ _ (c .before .before .before .before .before .before .judge-image .ensures .0) (c .before .before .before .before .if2 .left), c .before .before .before .before .before .before .judge-image .ensures .1)
+run-rows-requires c κs =
+    let (few, long, judged) = c .before .before .before .before .before .before .before .before .before .before .before .before .before .before .read-plan .ensures in
+    let e = c .before .before .before .before .before .before .judge-image .ensures in
+    let z = c .before .before .before .before .if2 .left in
+    (few, head-known _ _ _ (e .0) z, e .1, start-known _ _ _ long (judged (c .before .before .before .before .before .before .before .before .before .before .before .before .if1 .left)) (e .0) z)
 
 finish-requires : tie.Need-finish-requires
 finish-requires c κs = gone-over _ _ _ _ (c .run-rows .ensures)
