@@ -254,14 +254,15 @@ static void all_latencies(void)
     }
 }
 
-/* The working memory beside one row in and one row out; van Herk's needs the whole picture as well. */
+/* The working memory beside one row in and one row out; van Herk's needs the whole picture as well. The row queue counts
+ * twice, as it is filled and as it is handed to the drain, which the C spares. */
 static void all_memory(void)
 {
     task.width = MOST_WIDTH;
     for (size_t i = 0; i < 5; i++) {
         task.extent = windows[i] / 2;
         size_t cell = sample_size() + sizeof(uint16_t), row = task.width * sample_size();
-        size_t queues = cells() * cell + 2 * task.width + 63 * cell + row;
+        size_t queues = cells() * cell + 2 * task.width + 2 * 63 * cell + row;
         printf("memory\t%s\t%zu\t%zu\tqueue, proved or in C\t%zu\n", samples[task.is_float], task.width, windows[i], queues);
         size_t longest = padded(MOST_ROWS) * 64 > padded(task.width) ? padded(MOST_ROWS) * 64 : padded(task.width);
         size_t lines = 2 * longest * sample_size(), whole = row * MOST_ROWS;

@@ -25,12 +25,12 @@ places kind left right = backOf kind left right + aheadOf kind left right + 1
 abbrev pub queueAfter : Kind → ℕ → ℕ → List ℕ → ℕ → List (Entry ℕ)
 queueAfter kind left right xs t = queue (orderOf kind grey) (places kind left right) xs (t + 1)
 
-abbrev pub comparisonsOf : Kind → ℕ → ℕ → List ℕ → ℕ → ℕ
-comparisonsOf kind left right xs t = lineCost (orderOf kind grey) (places kind left right) xs t
+abbrev pub stepComparisons : Kind → ℕ → ℕ → List ℕ → ℕ → ℕ
+stepComparisons kind left right xs t = lineCost (orderOf kind grey) (places kind left right) xs t
 
 -- of the first n steps together
-abbrev pub together : Kind → ℕ → ℕ → List ℕ → ℕ → ℕ
-together kind left right xs n = lineCosts (orderOf kind grey) (places kind left right) xs n
+abbrev pub lineComparisons : Kind → ℕ → ℕ → List ℕ → ℕ → ℕ
+lineComparisons kind left right xs n = lineCosts (orderOf kind grey) (places kind left right) xs n
 
 abbrev pub at : ℕ → ℕ → Entry ℕ
 at value position = record { value = value; position = position }
@@ -43,8 +43,8 @@ abbrev pub P : List ℕ
 P = 3 ∷ 1 ∷ 4 ∷ 1 ∷ 5 ∷ 9 ∷ 2 ∷ 6 ∷ []
 
 -- a picture of one row, one of one pixel, 9 in the middle of 0, and 3 × 3 pixels alike
-abbrev pub row : List ℕ → Picture ℕ
-row r = r ∷ []
+abbrev pub oneRow : List ℕ → Picture ℕ
+oneRow r = r ∷ []
 
 abbrev pub middle : Picture ℕ
 middle = (0 ∷ 0 ∷ 0 ∷ []) ∷ (0 ∷ 9 ∷ 0 ∷ []) ∷ (0 ∷ 0 ∷ 0 ∷ []) ∷ []
@@ -57,26 +57,26 @@ pub record Cases : Type 0 where
   pub case1 : filtered Erosion 1 2 P ≡ 1 ∷ 1 ∷ 1 ∷ 1 ∷ 1 ∷ 2 ∷ 2 ∷ 2 ∷ []
   pub case2 : filtered Dilation 1 2 P ≡ 3 ∷ 4 ∷ 4 ∷ 5 ∷ 9 ∷ 9 ∷ 9 ∷ 9 ∷ []
   pub case3 : filtered Dilation 1 2 (filtered Erosion 1 2 P) ≡ 1 ∷ 1 ∷ 1 ∷ 1 ∷ 2 ∷ 2 ∷ 2 ∷ 2 ∷ []
-  pub case3-plan : applyPlan (opening grey 1 2 0 0) (row P) ≡ row (1 ∷ 1 ∷ 1 ∷ 1 ∷ 2 ∷ 2 ∷ 2 ∷ 2 ∷ [])
+  pub case3-plan : applyPlan (opening grey 1 2 0 0) (oneRow P) ≡ oneRow (1 ∷ 1 ∷ 1 ∷ 1 ∷ 2 ∷ 2 ∷ 2 ∷ 2 ∷ [])
   pub case4 : filtered Erosion 1 2 (filtered Dilation 1 2 P) ≡ 3 ∷ 3 ∷ 4 ∷ 4 ∷ 5 ∷ 9 ∷ 9 ∷ 9 ∷ []
-  pub case4-plan : applyPlan (closing grey 1 2 0 0) (row P) ≡ row (3 ∷ 3 ∷ 4 ∷ 4 ∷ 5 ∷ 9 ∷ 9 ∷ 9 ∷ [])
+  pub case4-plan : applyPlan (closing grey 1 2 0 0) (oneRow P) ≡ oneRow (3 ∷ 3 ∷ 4 ∷ 4 ∷ 5 ∷ 9 ∷ 9 ∷ 9 ∷ [])
   -- 5. Dilating P: the comparisons of steps 0 to 7, together, and of the drain
-  pub case5 : tabulate 8 (comparisonsOf Dilation 1 2 P) ≡ 0 ∷ 1 ∷ 2 ∷ 1 ∷ 2 ∷ 1 ∷ 1 ∷ 2 ∷ []
-  pub case5-together : together Dilation 1 2 P 9 ≡ 10
-  pub case5-drain : comparisonsOf Dilation 1 2 P 8 ≡ 0
+  pub case5 : tabulate 8 (stepComparisons Dilation 1 2 P) ≡ 0 ∷ 1 ∷ 2 ∷ 1 ∷ 2 ∷ 1 ∷ 1 ∷ 2 ∷ []
+  pub case5-together : lineComparisons Dilation 1 2 P 9 ≡ 10
+  pub case5-drain : stepComparisons Dilation 1 2 P 8 ≡ 0
   -- 6. After step 7 of that
   pub case6 : queueAfter Dilation 1 2 P 7 ≡ at 9 5 ∷ at 6 7 ∷ []
   -- 7. 4 3 2 1 dilated: its values, its comparisons, and never over 2 queued
   pub case7 : filtered Dilation 0 1 (4 ∷ 3 ∷ 2 ∷ 1 ∷ []) ≡ 4 ∷ 4 ∷ 3 ∷ 2 ∷ []
-  pub case7-comparisons : together Dilation 0 1 (4 ∷ 3 ∷ 2 ∷ 1 ∷ []) 4 ≡ 3
+  pub case7-comparisons : lineComparisons Dilation 0 1 (4 ∷ 3 ∷ 2 ∷ 1 ∷ []) 4 ≡ 3
   pub case7-queued : all (λ t. leb (length (queueAfter Dilation 0 1 (4 ∷ 3 ∷ 2 ∷ 1 ∷ []) t)) 2) (0 ∷ 1 ∷ 2 ∷ 3 ∷ []) ≡ true
   -- 8. 7 7 7 dilated: its values, the queue after step 2, its comparisons
   pub case8 : filtered Dilation 1 1 (7 ∷ 7 ∷ 7 ∷ []) ≡ 7 ∷ 7 ∷ 7 ∷ []
   pub case8-queue : queueAfter Dilation 1 1 (7 ∷ 7 ∷ 7 ∷ []) 2 ≡ at 7 2 ∷ []
-  pub case8-comparisons : together Dilation 1 1 (7 ∷ 7 ∷ 7 ∷ []) 4 ≡ 2
+  pub case8-comparisons : lineComparisons Dilation 1 1 (7 ∷ 7 ∷ 7 ∷ []) 4 ≡ 2
   -- 9. One pixel, all extents 31, whatever its value: nothing at steps 0 to 30, itself at step 31
-  pub case9-dilated : (v : ℕ) → rowsOut Dilation 31 (row (v ∷ [])) 32 ≡ replicate 31 none ++ (some (v ∷ []) ∷ [])
-  pub case9-eroded : (v : ℕ) → rowsOut Erosion 31 (row (v ∷ [])) 32 ≡ replicate 31 none ++ (some (v ∷ []) ∷ [])
+  pub case9-dilated : (v : ℕ) → rowsOut Dilation 31 (oneRow (v ∷ [])) 32 ≡ replicate 31 none ++ (some (v ∷ []) ∷ [])
+  pub case9-eroded : (v : ℕ) → rowsOut Erosion 31 (oneRow (v ∷ [])) 32 ≡ replicate 31 none ++ (some (v ∷ []) ∷ [])
   -- 10. 9 in the middle of 0, all extents 1: dilated, eroded, opened, closed
   pub case10-dilated : applyStage (stageOf grey Dilation 1 1 1 1) middle ≡ alike 9
   pub case10-eroded : applyStage (stageOf grey Erosion 1 1 1 1) middle ≡ alike 0

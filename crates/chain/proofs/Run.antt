@@ -1,33 +1,33 @@
 -- The laws of a plan's step on the memory lent. By which idea: a stage's row t - F is row t - F of the picture that the stages behind it see, one look-ahead later.
 use mathlib.Core.Path.{_≡_, refl, sym, ap, _∙_, subst}
 use mathlib.Core.Bool.{Bool, true, false}
-use mathlib.Core.List.{List, [], _∷_, _++_, append-nil, map}
+use mathlib.Core.List.{List, [], _∷_, map}
 use Prim.Native.Nat.{ℕ, _+_, _-_, _≤_, _<_}
 use native.Mathlib.Nat.{sub-zero, add-zero}
 use native.Mathlib.Numerals.{add-one}
 use native.Mathlib.Omega.{arith}
 use borrow.Author.Tests.{le-leb, lt-leb, leb-true, leb-false}
-use borrow.Rule.Slice.PartMut.{midOf, postOf, putMid, post-is, take-put}
-use borrow.Rule.Slice.PartAt.{part-to-end}
 use lib.Dec.{leb}
 use lib.ListN.{length, getD, take, drop, length-append, length-take, length-drop, drop-of-length-le}
-use lib.Seq.{length-take-le, take-at, drop-at, drop-cons, drop-length, getD-take}
+use lib.Seq.{length-take-le, drop-cons, getD-take}
 use Rattle.morph.specs.Picture.{Picture, applyStage, applyPlan}
 use Rattle.morph.specs.Plan.{planCost}
 use Rattle.morph.proofs.Lists.{split, both}
 use Rattle.morph.proofs.Picture.{stage-wide, stage-length, stage-each}
 use Rattle.sample.specs.Samples.{Samples}
-use Rattle.columns.specs.Columns.{Lent, soundRecords}
-use Rattle.columns.proofs.Records.{test-sound, sound-test}
+use Rattle.columns.specs.Inner.{Lent}
+use Rattle.memory.specs.Memory.{Memory, frontOf, behind, soundRecords, allSound, Whole, StageHolds, Holds}
+use Rattle.memory.proofs.Records.{test-sound, sound-test}
 use Rattle.plan_record.specs.declared.Stage.{Stage}
 use Rattle.plan_record.specs.declared.Plan.{Plan}
 use Rattle.plan_record.specs.Plan.{used, unused, filterOf, sizeOf, belowOf, cellsOf, total}
 use Rattle.plan_record.proofs.Laws.{mul-most}
-use Rattle.stage.specs.Stage.{Memory, Whole, StageHolds, StageStep}
-use Rattle.chain.specs.Run.{after, allSound, frontOf, behind, Ready, Begins, Leaves, Fronted, Holds, PlanStep}
+use Rattle.stage.specs.Inner.{StageStep}
+use Rattle.chain.specs.Inner.{after, Ready, Begins, Leaves, Fronted, PlanStep}
+use Rattle.chain.proofs.Memory.{Sized, AtLeast, append, append-front, append-behind, lentRest, rest-behind, restBack, back-front, back-behind}
 
 -- two parts as long as each other
-pub parts-long : {A B : Type 0} (n : ℕ) (l : List A) (m : List B) → n ≤ length l → n ≤ length m → length (take n l) ≡ length (take n m)
+parts-long : {A B : Type 0} (n : ℕ) (l : List A) (m : List B) → n ≤ length l → n ≤ length m → length (take n l) ≡ length (take n m)
 parts-long n l m h k = length-take-le n l h ∙ sym (length-take-le n m k)
 
 module _ {A : Type 0} where
@@ -62,7 +62,7 @@ module _ {A : Type 0} where
     }
 
   -- what a stage's own step asks of the front
-  pub begins-lent : (s : Stage) (W : ℕ) (M : Memory A) → Begins s W M → Lent (sizeOf s) W (take (cellsOf W s) (M .positions)) (take W (M .starts)) (take W (M .lengths))
+  begins-lent : (s : Stage) (W : ℕ) (M : Memory A) → Begins s W M → Lent (sizeOf s) W (take (cellsOf W s) (M .positions)) (take W (M .starts)) (take W (M .lengths))
   begins-lent s W M h =
       let a : length (take W (M .starts)) ≡ W = rw length-take (omega (arith, h .starts-long)) in
       let b : length (take W (M .lengths)) ≡ W = rw length-take (omega (arith, h .lengths-long)) in
@@ -83,36 +83,43 @@ module _ {A : Type 0} (K : Samples A) (s : Stage) (H t : ℕ) (M : Memory A) (ro
 
   -- the front F before what was behind
   abbrev joined : Memory A → Memory A
-  joined F = record {
-    values = F .values ++ drop (cellsOf W s) (M .values);
-    positions = F .positions ++ drop (cellsOf W s) (M .positions);
-    starts = F .starts ++ drop W (M .starts);
-    lengths = F .lengths ++ drop W (M .lengths);
-  }
+  joined F = append F (behind (cellsOf W s) W M)
 
-  pub front-leaves : (F : Memory A) (row′ : List A) (c n : ℕ) → n ≡ cellsOf W s → StageStep K s H t (frontOf (cellsOf W s) W M) row F row′ c
-      → Leaves W n c (length (joined F .values)) (length (joined F .positions)) (length (joined F .starts)) (length (joined F .lengths))
-  front-leaves F row′ c n e g =
-      let v : length (F .values) ≡ cellsOf W s = g .moved .values-long ∙ rw length-take (omega (arith, h .values-long)) in
-      record {
-        few = g .moved .few;
-        cells-few = rw e (mul-most W (sizeOf s) 4096 63 (h .narrow) (omega (arith, h .small .up, h .small .down)));
-        values-long = rw length-append (omega arith);
-        positions-long = rw length-append (omega (arith, g .moved .lent .positions-long));
-        starts-long = rw length-append (omega (arith, g .moved .lent .starts-long));
-        lengths-long = rw length-append (omega (arith, g .moved .lent .lengths-long));
-      }
+  module _ (F : Memory A) (row′ : List A) (c : ℕ) (g : StageStep K s H t (frontOf (cellsOf W s) W M) row F row′ c) where
+    front-sized : Sized (cellsOf W s) W F
+    front-sized = record {
+      values-long = g .moved .values-long ∙ rw length-take (omega (arith, h .values-long));
+      positions-long = g .moved .lent .positions-long;
+      starts-long = g .moved .lent .starts-long;
+      lengths-long = g .moved .lent .lengths-long;
+    }
 
-  pub front-joined : (F : Memory A) (row′ : List A) (c : ℕ) → StageStep K s H t (frontOf (cellsOf W s) W M) row F row′ c → Fronted K s H t M row (joined F) row′ c
-  front-joined F row′ c g =
-      let v : length (F .values) ≡ cellsOf W s = g .moved .values-long ∙ rw length-take (omega (arith, h .values-long)) in
-      let p : length (F .positions) ≡ cellsOf W s = g .moved .lent .positions-long in
-      let a : length (F .starts) ≡ W = g .moved .lent .starts-long in
-      let b : length (F .lengths) ≡ W = g .moved .lent .lengths-long in
-      record {
-        stepped = rw (take-at (F .values) (drop (cellsOf W s) (M .values)) (cellsOf W s) v, take-at (F .positions) (drop (cellsOf W s) (M .positions)) (cellsOf W s) p, take-at (F .starts) (drop W (M .starts)) W a, take-at (F .lengths) (drop W (M .lengths)) W b) g;
-        rest = rw (drop-at (F .values) (drop (cellsOf W s) (M .values)) (cellsOf W s) v, drop-at (F .positions) (drop (cellsOf W s) (M .positions)) (cellsOf W s) p, drop-at (F .starts) (drop W (M .starts)) W a, drop-at (F .lengths) (drop W (M .lengths)) W b);
-      }
+    front-leaves : Leaves W (cellsOf W s) c (length (joined F .values)) (length (joined F .positions)) (length (joined F .starts)) (length (joined F .lengths))
+    front-leaves = record {
+      few = g .moved .few;
+      cells-few = mul-most W (sizeOf s) 4096 63 (h .narrow) (omega (arith, h .small .up, h .small .down));
+      values-long = rw length-append (omega (arith, front-sized .values-long));
+      positions-long = rw length-append (omega (arith, front-sized .positions-long));
+      starts-long = rw length-append (omega (arith, front-sized .starts-long));
+      lengths-long = rw length-append (omega (arith, front-sized .lengths-long));
+    }
+
+    front-joined : Fronted K s H t M row (joined F) row′ c
+    front-joined = record {
+      stepped = rw (append-front (cellsOf W s) W F (behind (cellsOf W s) W M) front-sized) g;
+      rest = append-behind (cellsOf W s) W F (behind (cellsOf W s) W M) front-sized;
+    }
+
+  -- the same of the cells as the code has counted them
+  module _ (cells : ℕ) (e : cells ≡ cellsOf W s) where
+    pub front-lent : Lent (sizeOf s) W (take cells (M .positions)) (take W (M .starts)) (take W (M .lengths)) × (length (take cells (M .values)) ≡ length (take cells (M .positions)))
+    front-lent =
+        (rw e (begins-lent s W M h), parts-long cells (M .values) (M .positions) (omega (arith, h .values-long)) (omega (arith, h .positions-long)))
+
+    pub front-back : (F : Memory A) (row′ : List A) (c : ℕ) → StageStep K s H t (frontOf cells W M) row F row′ c
+        → Fronted K s H t M row (append F (behind cells W M)) row′ c
+        × Leaves W cells c (length (append F (behind cells W M) .values)) (length (append F (behind cells W M) .positions)) (length (append F (behind cells W M) .starts)) (length (append F (behind cells W M) .lengths))
+    front-back F row′ c g = let k = rw e at g in (rw e (front-joined F row′ c k), rw e (front-leaves F row′ c k))
 
 -- a look-ahead that is done
 leb-later : (a b t : ℕ) → b ≤ t → leb a (t - b) ≡ leb (b + a) t
@@ -204,47 +211,7 @@ module _ {A : Type 0} (K : Samples A) where
                 );
           }
 
--- ---- the rest of the memory is lent, and comes back
-
-module _ {A : Type 0} (cells W : ℕ) (M : Memory A) where
-  -- what is lent: from the cells and the records on to the end
-  abbrev pub lentRest : Memory A
-  lentRest = record {
-    values = midOf cells (length (M .values) - cells) (M .values);
-    positions = midOf cells (length (M .positions) - cells) (M .positions);
-    starts = midOf W (length (M .starts) - W) (M .starts);
-    lengths = midOf W (length (M .lengths) - W) (M .lengths);
-  }
-
-  pub rest-behind : lentRest ≡ behind cells W M
-  rest-behind = rw (part-to-end (M .values) cells, part-to-end (M .positions) cells, part-to-end (M .starts) W, part-to-end (M .lengths) W)
-
-  -- what is there when R has come back
-  abbrev pub restBack : Memory A → Memory A
-  restBack R = record {
-    values = putMid cells (length (M .values) - cells) (M .values) (R .values);
-    positions = putMid cells (length (M .positions) - cells) (M .positions) (R .positions);
-    starts = putMid W (length (M .starts) - W) (M .starts) (R .starts);
-    lengths = putMid W (length (M .lengths) - W) (M .lengths) (R .lengths);
-  }
-
-  back-end : {B : Type 0} (a : ℕ) (xs ys : List B) → a ≤ length xs → drop a (putMid a (length xs - a) xs ys) ≡ ys
-  back-end a xs ys h =
-      drop-at (take a xs) (ys ++ postOf a (length xs - a) xs) a (length-take-le a xs h)
-      ∙ ap (λ l. ys ++ l) (post-is a (length xs) xs h ∙ drop-length xs) ∙ append-nil ys
-
-  module _ (R : Memory A) (v : cells ≤ length (M .values)) (p : cells ≤ length (M .positions)) (s : W ≤ length (M .starts)) (l : W ≤ length (M .lengths)) where
-    pub back-front : frontOf cells W (restBack R) ≡ frontOf cells W M
-    back-front =
-        rw (
-          take-put cells (length (M .values) - cells) (M .values) (R .values) v,
-          take-put cells (length (M .positions) - cells) (M .positions) (R .positions) p,
-          take-put W (length (M .starts) - W) (M .starts) (R .starts) s,
-          take-put W (length (M .lengths) - W) (M .lengths) (R .lengths) l,
-        )
-
-    pub back-behind : behind cells W (restBack R) ≡ R
-    back-behind = rw (back-end cells (M .values) (R .values) v, back-end cells (M .positions) (R .positions) p, back-end W (M .starts) (R .starts) s, back-end W (M .lengths) (R .lengths) l)
+-- ---- the rest of the memory is lent to the stages behind, and comes back
 
 module _ {A : Type 0} (K : Samples A) (s : Stage) (ss : List Stage) (H t : ℕ) (M : Memory A) (row : List A) (ready : Ready (s ∷ ss) (length row) M)
     (M′ : Memory A) (row′ : List A) (c : ℕ) (f : Fronted K s H t M row M′ row′ c) (cells : ℕ) (e : cells ≡ cellsOf (length row) s) where
@@ -256,9 +223,9 @@ module _ {A : Type 0} (K : Samples A) (s : Stage) (ss : List Stage) (H t : ℕ) 
       → (R : Memory A) (row″ : List A) (d : ℕ) (due : Bool) → PlanStep K ss H (t - ahead) (lentRest cells (length row) M′) row′ R row″ d due
       → PlanStep K (s ∷ ss) H t M row (restBack cells (length row) M′ R) row″ (c + d) due
   plan-back ahead a l g R row″ d due h =
+      let m : AtLeast cells (length row) M′ = record { values-long = g .values-long; positions-long = g .positions-long; starts-long = g .starts-long; lengths-long = g .lengths-long } in
       plan-later K s ss H t M row ready M′ row′ c f (omega arith) R row″ d due (rw (← a, ← e) (rw (rest-behind cells (length row) M′) at h)) (restBack cells (length row) M′ R)
-      (rw (← e) (back-front cells (length row) M′ R (g .values-long) (g .positions-long) (g .starts-long) (g .lengths-long)))
-      (rw (← e) (back-behind cells (length row) M′ R (g .values-long) (g .positions-long) (g .starts-long) (g .lengths-long)))
+      (rw (← e) (back-front cells (length row) M′ R m)) (rw (← e) (back-behind cells (length row) M′ R m))
 
 -- ---- the stages from stage i on
 

@@ -3,7 +3,8 @@
 
 ghost use mathlib.Core.Path.{_≡_};
 ghost use Prim.Native.Nat.{_≤_};
-ghost use Rattle.plan_record.specs.Plan.{Small, cellsOf};
+ghost use Rattle.plan_record.specs.Plan.{cellsOf};
+ghost use Rattle.plan_record.specs.Inner.{Small};
 use plan_record::Stage;
 
 // The cells of one stage.

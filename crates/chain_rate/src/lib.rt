@@ -5,7 +5,8 @@ ghost use Prim.Native.Nat.{_≤_};
 ghost use lib.ListN.{length};
 ghost use Rattle.sample.specs.Samples.{rates};
 ghost use Rattle.plan_record.specs.Plan.{belowOf, cellsOf};
-ghost use Rattle.chain.specs.Run.{Leaves, Begins, Ready, after, Fronted, PlanStep};
+ghost use Rattle.memory.specs.Memory.{memory};
+ghost use Rattle.chain.specs.Inner.{after, Ready, Begins, Leaves, Fronted, PlanStep};
 use plan_record::Plan;
 use plan_record::Stage;
 
@@ -33,8 +34,8 @@ fn run_front(
     lengths: &mut [u8],
     row: &mut [f32],
 ) -> Front
-    requires { ⌜ Begins stage (length (now row)) (record { values = now values; positions = now positions; starts = now starts; lengths = now lengths }) × (rows ≤ 65535) ⌝ }
-    ensures { λ r. ⌜ Fronted rates stage rows t (record { values = now (values .entry); positions = now (positions .entry); starts = now (starts .entry); lengths = now (lengths .entry) }) (now (row .entry)) (record { values = now (values .exit); positions = now (positions .exit); starts = now (starts .exit); lengths = now (lengths .exit) }) (now (row .exit)) (r .comparisons) × (r .cells ≡ cellsOf (length (now (row .entry))) stage) × (r .ahead ≡ belowOf stage) × Leaves (length (now (row .entry))) (r .cells) (r .comparisons) (length (now (values .exit))) (length (now (positions .exit))) (length (now (starts .exit))) (length (now (lengths .exit))) ⌝ }
+    requires { ⌜ Begins stage (length (now row)) (memory (now values) (now positions) (now starts) (now lengths)) × (rows ≤ 65535) ⌝ }
+    ensures { λ r. ⌜ Fronted rates stage rows t (memory (now (values .entry)) (now (positions .entry)) (now (starts .entry)) (now (lengths .entry))) (now (row .entry)) (memory (now (values .exit)) (now (positions .exit)) (now (starts .exit)) (now (lengths .exit))) (now (row .exit)) (r .comparisons) × (r .cells ≡ cellsOf (length (now (row .entry))) stage) × (r .ahead ≡ belowOf stage) × Leaves (length (now (row .entry))) (r .cells) (r .comparisons) (length (now (values .exit))) (length (now (positions .exit))) (length (now (starts .exit))) (length (now (lengths .exit))) ⌝ }
 {
     let width = row.len();
     let cells = chain::cells_of(stage, width);
@@ -67,8 +68,8 @@ pub fn run(
     lengths: &mut [u8],
     row: &mut [f32],
 ) -> Ran
-    requires { ⌜ Ready (after i plan) (length (now row)) (record { values = now values; positions = now positions; starts = now starts; lengths = now lengths }) × (rows ≤ 65535) × (i ≤ plan .count) × (plan .count ≤ 16) ⌝ }
-    ensures { λ r. ⌜ PlanStep rates (after i plan) rows t (record { values = now (values .entry); positions = now (positions .entry); starts = now (starts .entry); lengths = now (lengths .entry) }) (now (row .entry)) (record { values = now (values .exit); positions = now (positions .exit); starts = now (starts .exit); lengths = now (lengths .exit) }) (now (row .exit)) (r .comparisons) (r .due) ⌝ }
+    requires { ⌜ Ready (after i plan) (length (now row)) (memory (now values) (now positions) (now starts) (now lengths)) × (rows ≤ 65535) × (i ≤ plan .count) × (plan .count ≤ 16) ⌝ }
+    ensures { λ r. ⌜ PlanStep rates (after i plan) rows t (memory (now (values .entry)) (now (positions .entry)) (now (starts .entry)) (now (lengths .entry))) (now (row .entry)) (memory (now (values .exit)) (now (positions .exit)) (now (starts .exit)) (now (lengths .exit))) (now (row .exit)) (r .comparisons) (r .due) ⌝ }
 {
     let count = plan.count;
     if count <= i {

@@ -12,7 +12,8 @@ use lib.Dec.{ltb}
 use lib.ListN.{length, take, drop, getD}
 use lib.Seq.{slice, take-take, take-nil, drop-drop, take-at, drop-at, length-take-le, getD-take, getD-drop}
 use Rattle.morph.proofs.Lists.{split}
-use Rattle.columns.specs.Columns.{Lent, cellsAt}
+use Rattle.columns.specs.Inner.{Lent}
+use Rattle.memory.specs.Memory.{cellsAt}
 
 pub ends-before : (P j x : ℕ) → j < x → j * P + P ≤ x * P
 ends-before P j x h = let e : suc j * P ≡ j * P + P = suc-mul j P in let l : suc j * P ≤ x * P = mul-le-mul-right P h in omega arith

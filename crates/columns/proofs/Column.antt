@@ -14,13 +14,15 @@ use Rattle.morph.specs.declared.Kind.{Kind}
 use Rattle.morph.specs.Order.{Order}
 use Rattle.morph.specs.Line.{Entry, front}
 use Rattle.morph.specs.Ring.{wrap, entries}
-use Rattle.morph.specs.Step.{roomed, stepCost}
+use Rattle.morph.specs.Inner.{roomed, stepCost}
 use Rattle.morph.proofs.Lists.{split}
 use Rattle.sample.specs.Samples.{Samples}
-use Rattle.queue.specs.Queue.{goesOf, listed, Pushed}
+use Rattle.queue.specs.Queue.{listed}
+use Rattle.queue.specs.Inner.{goesOf, Pushed}
 use Rattle.queue.specs.declared.Ends.{Ends}
 use Rattle.queue.proofs.Laws.{listed-length, listed-at, listed-front, listed-stays}
-use Rattle.columns.specs.Columns.{Lent, cellsAt, only, columnAt, Moved, reads, frontAt, EntryAt}
+use Rattle.columns.specs.Inner.{Lent, only, Moved, reads, frontAt, EntryAt}
+use Rattle.memory.specs.Memory.{cellsAt, columnAt}
 use Rattle.columns.proofs.Cells.{column-in, cells-part, cells-place, Beside, put-here, put-beside}
 
 -- there are as many columns as starts

@@ -13,11 +13,12 @@ use lib.ListN.{length, getD, set, length-set}
 use Rattle.morph.specs.declared.Kind.{Kind}
 use Rattle.morph.specs.Lists.{tabulate, sumTo}
 use Rattle.morph.specs.Line.{Entry}
-use Rattle.morph.specs.Step.{roomed, stepCost}
+use Rattle.morph.specs.Inner.{roomed, stepCost}
 use Rattle.morph.proofs.Lists.{split, length-tabulate, getD-tabulate}
 use Rattle.sample.specs.Samples.{Samples, greys, rates}
 use Rattle.sample.proofs.Rows.{Filling, fill-start, fill-next, fill-end}
-use Rattle.columns.specs.Columns.{Lent, only, columnAt, Moved, RecordsMoved, reads, RowRead, frontAt}
+use Rattle.columns.specs.Inner.{Lent, only, Moved, RecordsMoved, reads, RowRead, frontAt}
+use Rattle.memory.specs.Memory.{columnAt}
 use Rattle.columns.proofs.Cells.{next-cells}
 
 -- the columns before x have gone on by `next`

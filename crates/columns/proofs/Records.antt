@@ -1,20 +1,15 @@
--- The judging of the column records: the flag is that of the columns passed, and it is true exactly where all are sound.
+-- The judging of the column records: the flag is that of the columns passed.
 use mathlib.Core.Path.{_≡_, refl, _∙_}
 use mathlib.Core.Bool.{Bool, true, false, _&&_, and-true}
 use mathlib.Core.List.{List, [], _∷_}
-use Prim.Native.Nat.{ℕ, zero, suc, _+_, _≤_, _<_}
-use native.Mathlib.Nat.{not-suc-le-zero}
+use Prim.Native.Nat.{ℕ, _+_, _≤_, _<_}
 use native.Mathlib.Numerals.{add-one}
-use native.Mathlib.Omega.{arith}
-use borrow.Author.Tests.{ltb-true, leb-true, lt-ltb, le-leb}
 use lib.Dec.{ltb, leb}
 use lib.ListN.{length, take, getD}
 use lib.Seq.{take-suc, take-all}
 use Rattle.morph.specs.Lists.{all}
-use Rattle.morph.proofs.Lists.{both, all-append}
-use Rattle.columns.specs.Columns.{Sound, soundRecords}
-
--- ---- one flag over the records
+use Rattle.morph.proofs.Lists.{all-append}
+use Rattle.memory.specs.Memory.{soundRecords}
 
 middle : (a b c d : Bool) → ((a && b) && (c && d)) ≡ ((a && c) && (b && d))
 middle true true c d = refl
@@ -36,32 +31,3 @@ module _ (P : ℕ) (starts lengths : List ℕ) where
 
   pub judge-end : (x : ℕ) (good : Bool) → length starts ≤ x → length lengths ≤ x → good ≡ soundRecords P (take x starts) (take x lengths) → good ≡ soundRecords P starts lengths
   judge-end x good h k g = g ∙ rw (take-all x starts h, take-all x lengths k)
-
--- ---- the test is true exactly where the records are sound
-
-all-each : (p : ℕ → Bool) (l : List ℕ) → all p l ≡ true → (i : ℕ) → i < length l → p (getD l i 0) ≡ true
-all-each p [] h i k = absurd (not-suc-le-zero k)
-all-each p (a ∷ l) h zero k = both (p a) (all p l) h .0
-all-each p (a ∷ l) h (suc i) k = all-each p l (both (p a) (all p l) h .1) i (omega arith)
-
-each-all : (p : ℕ → Bool) (l : List ℕ) → ((i : ℕ) → i < length l → p (getD l i 0) ≡ true) → all p l ≡ true
-each-all p [] h = refl
-each-all p (a ∷ l) h = cc (h zero (omega arith), each-all p l (λ i k. h (suc i) (omega arith)))
-
-module _ (P W : ℕ) (starts lengths : List ℕ) (a : length starts ≡ W) (b : length lengths ≡ W) where
-  pub test-sound : soundRecords P starts lengths ≡ true → Sound P W starts lengths
-  unfolding soundRecords
-  test-sound h =
-      let (c, d) = both (all (λ s. ltb s P) starts) (all (λ n. leb n P) lengths) h in
-      record {
-        below = λ x k. ltb-true (getD starts x 0) P (all-each (λ s. ltb s P) starts c x (omega arith));
-        fits = λ x k. leb-true (getD lengths x 0) P (all-each (λ n. leb n P) lengths d x (omega arith));
-      }
-
-  pub sound-test : Sound P W starts lengths → soundRecords P starts lengths ≡ true
-  unfolding soundRecords
-  sound-test h =
-      rw (
-        each-all (λ s. ltb s P) starts (λ x k. lt-ltb (getD starts x 0) P (h .below x (omega arith))),
-        each-all (λ n. leb n P) lengths (λ x k. le-leb (getD lengths x 0) P (h .fits x (omega arith))),
-      )

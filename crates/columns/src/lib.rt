@@ -7,9 +7,10 @@ ghost use Prim.Native.Nat.{_*_, _≤_, _<_};
 ghost use mathlib.Core.Bool.{_&&_};
 ghost use lib.Dec.{ltb, leb};
 ghost use lib.ListN.{length};
-ghost use Rattle.morph.specs.Step.{roomed};
+ghost use Rattle.morph.specs.Inner.{roomed};
 ghost use Rattle.sample.specs.Samples.{greys, rates};
-ghost use Rattle.columns.specs.Columns.{Lent, RecordsMoved, only, soundRecords};
+ghost use Rattle.columns.specs.Inner.{Lent, only, RecordsMoved};
+ghost use Rattle.memory.specs.Memory.{soundRecords};
 
 // A number as a record keeps it.
 pub fn narrow(x: usize) -> u8

@@ -10,25 +10,26 @@ use denote.Enum.Declared.{tagOf}
 use lib.Dec.{eqb, leb}
 use types.Run.{OneOf}
 use Rattle.morph.proofs.Lists.{split}
+use Rattle.morph.specs.Numbers.{firstOf}
+use Rattle.morph.proofs.Numbers.{first-one, first-skip, first-found}
 use Rattle.sample.specs.Samples.{Samples}
 use Rattle.plan_record.specs.declared.Plan.{Plan}
-use Rattle.plan_record.specs.Numbers.{firstOf}
-use Rattle.plan_record.specs.Plan.{planAhead}
-use Rattle.plan_record.proofs.Numbers.{first-one, first-skip, first-found}
-use Rattle.stage.specs.Stage.{Memory}
+use Rattle.plan_record.specs.Plan.{used, total, belowOf, planAhead}
+use Rattle.plan_record.proofs.Laws.{used-plan}
+use Rattle.memory.specs.Memory.{Memory}
 use Rattle.picture_state.specs.declared.Answer.{Answer}
 use Rattle.picture_state.specs.declared.State.{State}
 use Rattle.picture_state.specs.declared.Started.{Started}
 use Rattle.picture_state.specs.Numbers.{rowNumber, drainJudged}
-use Rattle.picture_state.specs.Start.{Start, firstState}
-use Rattle.picture_state.specs.Step.{Said, refused, saidOf, saidAt, nextState, columnOf, Unchanged, Advanced, RowStep, DrainStep}
+use Rattle.picture_state.specs.Start.{PictureStart, firstState}
+use Rattle.picture_state.specs.Step.{RowSaid, refused, rowSaidOf, rowSaidAt, nextState, columnOf, Unchanged, Advanced, RowStep, DrainStep}
 use Rattle.groups.specs.declared.Next.{Next}
 use Rattle.groups.specs.declared.Next.the-variants.{Write, Wait, End}
-use Rattle.groups.specs.Groups.{groupNumber, nextOf}
+use Rattle.groups.specs.Inner.{groupNumber, nextOf}
 use Rattle.course.specs.declared.Course.{Course}
 use Rattle.course.specs.declared.Course.the-variants.{On, Ends, Lost}
 use Rattle.course.specs.declared.Turn.{Turn}
-use Rattle.course.specs.Course.{Onward, Follows, Turned, ReadTurned, stateAfter, Gone, Over}
+use Rattle.course.specs.Inner.{Onward, CourseAfter, Turned, ReadTurned, stateAfter, Gone, Over}
 use Rattle.course.proofs.Course.{the-type}
 
 -- ---- a course is one of three
@@ -54,26 +55,26 @@ same-end p q = cc
 -- ---- what is written
 
 module _ {next : Next} {course : Course} where
-  pub follows-write : next ≡ Write → Onward course → Follows next course
+  pub follows-write : next ≡ Write → Onward course → CourseAfter next course
   follows-write e o = rw e o
 
-  pub follows-wait : next ≡ Wait → course ≡ On → Follows next course
+  pub follows-wait : next ≡ Wait → course ≡ On → CourseAfter next course
   follows-wait e o = rw e o
 
-  pub follows-end : {n : ℕ} → next ≡ End n → course ≡ Ends n → Follows next course
+  pub follows-end : {n : ℕ} → next ≡ End n → course ≡ Ends n → CourseAfter next course
   follows-end e o = rw e o
 
 -- ---- a step's answer and the course after it
 
 -- an answer that is a row or not yet lets the run go on, or be lost in the write
-onward : (due : Bool) (number comparisons : ℕ) {course : Course} → Follows (nextOf (saidAt due number comparisons)) course → Onward course
+onward : (due : Bool) (number comparisons : ℕ) {course : Course} → CourseAfter (nextOf (rowSaidAt due number comparisons)) course → Onward course
 onward true number comparisons f = f
 onward false number comparisons f = inl f
 
-said-follows : (answer : Answer) (said : Said) (course : Course) {next : Next} → next ≡ nextOf (saidOf answer) → Follows next course → saidOf answer ≡ said → Follows (nextOf said) course
-said-follows answer said course e f s = subst (λ (n : Next). Follows n course) (e ∙ ap nextOf s) f
+said-follows : (answer : Answer) (said : RowSaid) (course : Course) {next : Next} → next ≡ nextOf (rowSaidOf answer) → CourseAfter next course → rowSaidOf answer ≡ said → CourseAfter (nextOf said) course
+said-follows answer said course e f s = subst (λ (n : Next). CourseAfter n course) (e ∙ ap nextOf s) f
 
-module _ {A : Type 0} (K : Samples A) {S : State} {M M′ : Memory A} {out out′ : List A} (answer : Answer) {S′ : State} {next : Next} {course : Course} (e : next ≡ nextOf (saidOf answer)) (f : Follows next course) where
+module _ {A : Type 0} (K : Samples A) {S : State} {M M′ : Memory A} {out out′ : List A} (answer : Answer) {S′ : State} {next : Next} {course : Course} (e : next ≡ nextOf (rowSaidOf answer)) (f : CourseAfter next course) where
   refused-turn : (number column : ℕ) → Unchanged K number column S M out M′ out′ answer S′ → (course ≡ Ends number) × (S′ ≡ S)
   refused-turn number column u = (said-follows answer (refused number column) course e f (u .said), u .state)
 
@@ -81,16 +82,16 @@ module _ {A : Type 0} (K : Samples A) {S : State} {M M′ : Memory A} {out out�
   taken-turn a =
       let due = leb (planAhead (S .plan)) (S .step) in
       let number = S .step - planAhead (S .plan) in
-      (onward due number (a .comparisons) (said-follows answer (saidAt due number (a .comparisons)) course e f (a .said)), a .state)
+      (onward due number (a .comparisons) (said-follows answer (rowSaidAt due number (a .comparisons)) course e f (a .said)), a .state)
 
 module _ {A : Type 0} {K : Samples A} {kind : ℕ} {S : State} {M M′ : Memory A} {out out′ : List A} {answer : Answer} {T : Turn} {next : Next} where
   -- a drain's step and what follows from its answer
-  pub drain-turned : DrainStep K kind S M out M′ out′ answer (T .state) → next ≡ nextOf (saidOf answer) → Follows next (T .course) → Turned (drainJudged kind S M out) S T
+  pub drain-turned : DrainStep K kind S M out M′ out′ answer (T .state) → next ≡ nextOf (rowSaidOf answer) → CourseAfter next (T .course) → Turned (drainJudged kind S M out) S T
   drain-turned d e f = record { refusal = λ h. refused-turn K answer e f (drainJudged kind S M out) 0 (d .refusal h); accepted = λ h. taken-turn K answer e f (d .accepted h) }
 
   -- a row's, where all its bytes came
-  pub row-turned : {pixels : List A} {got size : ℕ} → got ≤ size → groupNumber got size ≡ 0 → RowStep K kind S M pixels out M′ out′ answer (T .state) → next ≡ nextOf (saidOf answer)
-      → Follows next (T .course) → ReadTurned size (rowNumber K kind S M pixels out) S T
+  pub row-turned : {pixels : List A} {got size : ℕ} → got ≤ size → groupNumber got size ≡ 0 → RowStep K kind S M pixels out M′ out′ answer (T .state) → next ≡ nextOf (rowSaidOf answer)
+      → CourseAfter next (T .course) → ReadTurned size (rowNumber K kind S M pixels out) S T
   row-turned {pixels} {got} {size} w z d e f =
       let number = rowNumber K kind S M pixels out in
       let s : firstOf (groupNumber got size ∷ number ∷ []) ≡ number = first-skip (groupNumber got size) (number ∷ []) z ∙ first-one number in
@@ -162,15 +163,15 @@ pub gone-refused : {count : ℕ} {S : State} {T : Turn} {number : ℕ} → T .co
 gone-refused c h = record { on = λ o. absurd (on-ends o c); ends = λ n e z. h (same-end c e ∙ z) }
 
 -- the steps after a start that is accepted are those of the whole run
-pub start-gone : {number : ℕ} {plan : Plan} {sample width rows records : ℕ} {starts lengths starts′ lengths′ : List ℕ} {started : Started} {ahead : ℕ} {T : Turn}
-    → Start number (firstState plan sample width rows) records starts lengths starts′ lengths′ started → started .number ≡ 0 → ahead ≡ planAhead plan
-    → Gone (started .state .rows + ahead) (started .state) T → Gone (rows + planAhead plan) (firstState plan sample width rows) T
-start-gone {plan = plan} {sample = sample} {width = width} {rows = rows} {ahead = ahead} {T = T} b z a g =
+pub start-gone : {number : ℕ} {first : State} {records : ℕ} {starts lengths starts′ lengths′ : List ℕ} {started : Started} {ahead all : ℕ} {T : Turn}
+    → PictureStart number first records starts lengths starts′ lengths′ started → started .number ≡ 0 → ahead ≡ all
+    → Gone (started .state .rows + ahead) (started .state) T → Gone (first .rows + all) first T
+start-gone {first = first} {ahead = ahead} {T = T} b z a g =
     let e = b .accepted (sym (b .told) ∙ z) .0 in
-    subst (λ (n : ℕ). Gone (rows + n) (firstState plan sample width rows) T) a (subst (λ (S : State). Gone (S .rows + ahead) S T) e g)
+    subst (λ (n : ℕ). Gone (first .rows + n) first T) a (subst (λ (S : State). Gone (S .rows + ahead) S T) e g)
 
 -- the whole run of a plan is over
 pub gone-over : (plan : Plan) (sample width rows : ℕ) {T : Turn} → Gone (rows + planAhead plan) (firstState plan sample width rows) T → Over T
 gone-over plan sample width rows {T} g = record { on = λ o. last (g .on o); ends = g .ends } where
   last : T .state ≡ stateAfter (rows + planAhead plan) (firstState plan sample width rows) → T .state .step ≡ T .state .rows + planAhead (T .state .plan)
-  last e = rw e (omega arith)
+  last e = let p = ap (total belowOf) (used-plan (used plan)) in rw e (omega arith)

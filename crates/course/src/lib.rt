@@ -3,7 +3,7 @@
 
 ghost use mathlib.Core.Path.{_≡_};
 ghost use lib.ListN.{length};
-ghost use Rattle.course.specs.Course.{Follows};
+ghost use Rattle.course.specs.Inner.{CourseAfter};
 use groups::Next;
 use picture::State;
 
@@ -22,7 +22,7 @@ pub struct Turn {
 
 // Writes the frame of a row that is due.
 pub fn put(to: i32, next: Next, frame: &[u8]) -> Course
-    ensures { λ r. ⌜ Follows next r ⌝ }
+    ensures { λ r. ⌜ CourseAfter next r ⌝ }
 {
     match next {
         Next::Write => {

@@ -4,9 +4,10 @@ ghost use Prim.Native.Nat.{_+_, _≤_, _<_};
 ghost use lib.ListN.{length, drop};
 ghost use Rattle.sample.specs.Samples.{greys};
 ghost use Rattle.plan_record.specs.Plan.{planAhead};
+ghost use Rattle.memory.specs.Memory.{memory};
 ghost use Rattle.picture_state.specs.Numbers.{rowNumber, drainJudged};
 ghost use Rattle.picture_state.specs.Start.{firstState};
-ghost use Rattle.course.specs.Course.{Turned, ReadTurned, Gone};
+ghost use Rattle.course.specs.Inner.{Turned, ReadTurned, Gone};
 use course::Course;
 use course::Turn;
 use picture::State;
@@ -25,7 +26,7 @@ fn read_one(
     lengths: &mut [u8],
 ) -> Turn
     requires { ⌜ 0 < length (now frame) ⌝ }
-    ensures { λ r. ⌜ ReadTurned (length (now (row .exit))) (rowNumber greys 0 state (record { values = now (values .entry); positions = now (positions .entry); starts = now (starts .entry); lengths = now (lengths .entry) }) (now (row .exit)) (drop 1 (now (frame .entry)))) state r ⌝ }
+    ensures { λ r. ⌜ ReadTurned (length (now (row .exit))) (rowNumber greys 0 state (memory (now (values .entry)) (now (positions .entry)) (now (starts .entry)) (now (lengths .entry))) (now (row .exit)) (drop 1 (now (frame .entry)))) state r ⌝ }
 {
     let got = io::read_full(from, row);
     let number = groups::judge_group(got, row.len());
@@ -56,7 +57,7 @@ fn drain_one(
     lengths: &mut [u8],
 ) -> Turn
     requires { ⌜ 0 < length (now frame) ⌝ }
-    ensures { λ r. ⌜ Turned (drainJudged 0 state (record { values = now (values .entry); positions = now (positions .entry); starts = now (starts .entry); lengths = now (lengths .entry) }) (drop 1 (now (frame .entry)))) state r ⌝ }
+    ensures { λ r. ⌜ Turned (drainJudged 0 state (memory (now (values .entry)) (now (positions .entry)) (now (starts .entry)) (now (lengths .entry))) (drop 1 (now (frame .entry)))) state r ⌝ }
 {
     let stepped = frames::grey::drain(state, frame, values, positions, starts, lengths);
     let answer = stepped.answer;

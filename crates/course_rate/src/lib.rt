@@ -5,10 +5,11 @@ ghost use Prim.Native.Nat.{_+_, _*_, _≤_};
 ghost use lib.ListN.{length};
 ghost use Rattle.sample.specs.Samples.{rates};
 ghost use Rattle.plan_record.specs.Plan.{planAhead};
+ghost use Rattle.memory.specs.Memory.{memory};
 ghost use Rattle.picture_state.specs.Numbers.{rowNumber, drainJudged};
 ghost use Rattle.picture_state.specs.Start.{firstState};
-ghost use Rattle.frames.specs.Floats.{floatsOf};
-ghost use Rattle.course.specs.Course.{Follows, Turned, ReadTurned, Gone};
+ghost use Rattle.frames.specs.Inner.{floatsOf};
+ghost use Rattle.course.specs.Inner.{CourseAfter, Turned, ReadTurned, Gone};
 use course::Course;
 use course::Turn;
 use groups::Next;
@@ -18,7 +19,7 @@ use plan_record::Plan;
 // Writes the output row, if it is due, in its frame.
 fn put(to: i32, next: Next, out: &[f32], frame: &mut [u8]) -> Course
     requires { ⌜ length (now frame) ≡ 1 + length (now out) * 4 ⌝ }
-    ensures { λ r. ⌜ Follows next r ⌝ }
+    ensures { λ r. ⌜ CourseAfter next r ⌝ }
 {
     if let Next::Write = next {
         frames::floats::give_out(out, frame);
@@ -42,7 +43,7 @@ fn read_one(
     lengths: &mut [u8],
 ) -> Turn
     requires { ⌜ (length (now bytes) ≡ length (now row) * 4) × (length (now frame) ≡ 1 + length (now out) * 4) ⌝ }
-    ensures { λ r. ⌜ ReadTurned (length (now (bytes .exit))) (rowNumber rates 1 state (record { values = now (values .entry); positions = now (positions .entry); starts = now (starts .entry); lengths = now (lengths .entry) }) (floatsOf (length (now (row .entry))) (now (bytes .exit))) (now (out .entry))) state r ⌝ }
+    ensures { λ r. ⌜ ReadTurned (length (now (bytes .exit))) (rowNumber rates 1 state (memory (now (values .entry)) (now (positions .entry)) (now (starts .entry)) (now (lengths .entry))) (floatsOf (length (now (row .entry))) (now (bytes .exit))) (now (out .entry))) state r ⌝ }
 {
     let got = io::read_full(from, bytes);
     let number = groups::judge_group(got, bytes.len());
@@ -83,7 +84,7 @@ fn drain_one(
     lengths: &mut [u8],
 ) -> Turn
     requires { ⌜ length (now frame) ≡ 1 + length (now out) * 4 ⌝ }
-    ensures { λ r. ⌜ Turned (drainJudged 1 state (record { values = now (values .entry); positions = now (positions .entry); starts = now (starts .entry); lengths = now (lengths .entry) }) (now (out .entry))) state r ⌝ }
+    ensures { λ r. ⌜ Turned (drainJudged 1 state (memory (now (values .entry)) (now (positions .entry)) (now (starts .entry)) (now (lengths .entry))) (now (out .entry))) state r ⌝ }
 {
     let stepped = picture::rate::drain(state, out, values, positions, starts, lengths);
     let answer = stepped.answer;

@@ -1,35 +1,49 @@
 -- What an accepted call has, and that the promise leaves no choice.
 use mathlib.Core.Path.{_≡_, refl, sym, _∙_}
-use mathlib.Core.Bool.{true}
+use mathlib.Core.Bool.{true, not}
 use mathlib.Core.List.{List, [], _∷_}
 use Prim.Native.Nat.{ℕ, _≤_}
 use native.Mathlib.Omega.{arith}
-use borrow.Author.Tests.{eqb-true, eqb-false}
+use borrow.Author.Tests.{eqb-true, eqb-false, not-false}
 use lib.Dec.{eqb}
 use lib.ListN.{length}
 use Rattle.morph.specs.declared.Kind.{Kind}
-use Rattle.morph.specs.Order.{orderOf, backOf, aheadOf}
+use Rattle.morph.specs.Order.{orderOf, backOf, aheadOf, kindOf}
 use Rattle.morph.specs.Grey.{grey}
 use Rattle.morph.specs.Line.{filterLine}
 use Rattle.morph.specs.Lists.{Each}
+use Rattle.morph.specs.Numbers.{given}
 use Rattle.morph.proofs.Lists.{split}
+use Rattle.morph.proofs.Numbers.{first-one, first-zero, given-zero, skip, found}
 use Rattle.sample.specs.Samples.{greys}
-use Rattle.line_judge.specs.Numbers.{kindOf, startNumber, Sound}
+use Rattle.line_judge.specs.Numbers.{lineStartNumber}
+use Rattle.line_judge.specs.Inner.{LineSound}
 use Rattle.line_judge.proofs.Numbers.{start-zero}
-use Rattle.firmware.specs.Row.{rowNumber, FiltersRow}
+use Rattle.firmware.specs.Row.{filterRowNumber, FiltersRow}
 
 pub accepted : {n m : ℕ} → n ≡ m → n ≤ 0 → m ≡ 0
 accepted e h = omega arith
 
+-- the number, from that of the line's start
+module _ (kind left right pixels places : ℕ) {n : ℕ} (e : n ≡ lineStartNumber kind left right pixels) where
+  abbrev uneven : ℕ
+  uneven = given 7 (not (eqb pixels places))
+
+  pub row-start : (n ≡ 0 → ⊥) → n ≡ filterRowNumber kind left right pixels places
+  unfolding filterRowNumber
+  row-start h = found (lineStartNumber kind left right pixels) (uneven ∷ []) e h
+
+  pub row-lengths : {m : ℕ} → n ≡ 0 → m ≡ uneven → m ≡ filterRowNumber kind left right pixels places
+  unfolding filterRowNumber
+  row-lengths z f = skip (lineStartNumber kind left right pixels) (uneven ∷ []) (sym e ∙ z) (f ∙ sym (first-one uneven))
+
 -- an accepted call is a sound line's, and its rows are alike in length
-pub row-zero : (kind left right pixels places : ℕ) → rowNumber kind left right pixels places ≡ 0 → Sound (kindOf kind) left right pixels 0 0 0 × (pixels ≡ places)
-unfolding rowNumber
+pub row-zero : (kind left right pixels places : ℕ) → filterRowNumber kind left right pixels places ≡ 0 → LineSound (kindOf kind) left right pixels 0 0 0 × (pixels ≡ places)
+unfolding filterRowNumber
 row-zero kind left right pixels places h =
-    split (eqb (startNumber kind left right pixels) 0)
-    (λ a. split (eqb pixels places)
-    (λ b. (start-zero kind left right pixels (eqb-true _ 0 a), eqb-true pixels places b))
-    (λ b. absurd (omega (arith, rw (a, b) at h))))
-    (λ a. absurd (eqb-false _ 0 a (rw a at h)))
+    let (a, b) = first-zero (lineStartNumber kind left right pixels) (given 7 (not (eqb pixels places)) ∷ []) h in
+    let (c, _) = first-zero (given 7 (not (eqb pixels places))) [] b in
+    (start-zero kind left right pixels a, eqb-true pixels places (not-false _ (given-zero 6 _ c)))
 
 -- every byte is an accepted pixel
 all-good : (row : List ℕ) → Each (λ a. greys .good a ≡ true) row
@@ -47,7 +61,7 @@ pub filter-row-unique : (kind left right : ℕ) (input output output₁ output�
     → (r₁ ≡ r₂) × (output₁ ≡ output₂)
 filter-row-unique kind left right input output output₁ output₂ r₁ r₂ h k = (
   h .told ∙ sym (k .told),
-  split (eqb (rowNumber kind left right (length input) (length output)) 0)
+  split (eqb (filterRowNumber kind left right (length input) (length output)) 0)
       (λ z. h .filters (eqb-true _ 0 z) ∙ sym (k .filters (eqb-true _ 0 z)))
       (λ z. h .refuses (eqb-false _ 0 z) ∙ sym (k .refuses (eqb-false _ 0 z))),
 )

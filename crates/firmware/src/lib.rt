@@ -2,11 +2,11 @@
 // From C a row is a pointer and then a length. The two rows may not overlap; nothing past either row is read or written.
 
 ghost use mathlib.Core.Path.{_≡_};
-ghost use Rattle.firmware.specs.Row.{rowNumber, FiltersRow};
+ghost use Rattle.firmware.specs.Row.{filterRowNumber, FiltersRow};
 
 // The number of a call, 0 where it is accepted, of rows of these two lengths.
 fn judge(kind: u8, left: u8, right: u8, pixels: usize, places: usize) -> u8
-    ensures { λ r. ⌜ r ≡ rowNumber kind left right pixels places ⌝ }
+    ensures { λ r. ⌜ r ≡ filterRowNumber kind left right pixels places ⌝ }
 {
     let number = line_judge::start(kind, left, right, pixels);
     if number != 0 {

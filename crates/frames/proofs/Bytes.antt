@@ -10,9 +10,9 @@ use lib.Seq.{take-suc, take-all, take-at, drop-at, drop-drop, length-take-le}
 use lib.Ieee.{Float, nan, binary32, fits}
 use Rattle.morph.specs.Lists.{tabulate, Each}
 use Rattle.morph.proofs.Lists.{length-tabulate, getD-tabulate, tabulate-ext}
-use Rattle.sample.specs.Bytes.{floatAt, bytesOf}
+use Rattle.sample.specs.Inner.{floatAt, bytesOf}
 use Rattle.sample.proofs.Bytes.{float-back}
-use Rattle.frames.specs.Floats.{floatsOf, bytesOfRow}
+use Rattle.frames.specs.Inner.{floatsOf, bytesOfRow}
 
 -- ---- from bytes
 

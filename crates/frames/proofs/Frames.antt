@@ -7,7 +7,7 @@ use borrow.Rule.Slice.PartMut.{midOf, putMid}
 use lib.ListN.{length, take, drop, set, drop-of-length-le}
 use lib.Seq.{take-all}
 use Rattle.sample.specs.Samples.{Samples}
-use Rattle.stage.specs.Stage.{Memory}
+use Rattle.memory.specs.Memory.{Memory}
 use Rattle.picture_state.specs.declared.State.{State}
 use Rattle.picture_state.specs.declared.Answer.{Answer}
 use Rattle.picture_state.specs.Step.{RowStep, DrainStep}

@@ -4,7 +4,7 @@ ghost use mathlib.Core.Path.{_≡_};
 ghost use mathlib.Core.List.{_∷_};
 ghost use Prim.Native.Nat.{_+_, _*_};
 ghost use lib.ListN.{length};
-ghost use Rattle.frames.specs.Floats.{floatsOf, bytesOfRow};
+ghost use Rattle.frames.specs.Inner.{floatsOf, bytesOfRow};
 
 // The floats whose bytes a row has.
 pub fn take_in(bytes: &[u8], row: &mut [f32])

@@ -5,6 +5,7 @@ ghost use mathlib.Core.List.{[], _∷_};
 ghost use Prim.Native.Nat.{_<_};
 ghost use lib.ListN.{length, take, drop};
 ghost use Rattle.sample.specs.Samples.{greys};
+ghost use Rattle.memory.specs.Memory.{memory};
 ghost use Rattle.picture_state.specs.Step.{RowStep, DrainStep};
 use picture::State;
 use picture::Stepped;
@@ -20,7 +21,7 @@ pub fn step(
     lengths: &mut [u8],
 ) -> Stepped
     requires { ⌜ 0 < length (now frame) ⌝ }
-    ensures { λ r. ⌜ (take 1 (now (frame .exit)) ≡ 1 ∷ []) × RowStep greys 0 state (record { values = now (values .entry); positions = now (positions .entry); starts = now (starts .entry); lengths = now (lengths .entry) }) (now (row .entry)) (drop 1 (now (frame .entry))) (record { values = now (values .exit); positions = now (positions .exit); starts = now (starts .exit); lengths = now (lengths .exit) }) (drop 1 (now (frame .exit))) (r .answer) (r .state) ⌝ }
+    ensures { λ r. ⌜ (take 1 (now (frame .exit)) ≡ 1 ∷ []) × RowStep greys 0 state (memory (now (values .entry)) (now (positions .entry)) (now (starts .entry)) (now (lengths .entry))) (now (row .entry)) (drop 1 (now (frame .entry))) (memory (now (values .exit)) (now (positions .exit)) (now (starts .exit)) (now (lengths .exit))) (drop 1 (now (frame .exit))) (r .answer) (r .state) ⌝ }
 {
     frame[0] = 1;
     picture::grey::row(
@@ -44,7 +45,7 @@ pub fn drain(
     lengths: &mut [u8],
 ) -> Stepped
     requires { ⌜ 0 < length (now frame) ⌝ }
-    ensures { λ r. ⌜ (take 1 (now (frame .exit)) ≡ 1 ∷ []) × DrainStep greys 0 state (record { values = now (values .entry); positions = now (positions .entry); starts = now (starts .entry); lengths = now (lengths .entry) }) (drop 1 (now (frame .entry))) (record { values = now (values .exit); positions = now (positions .exit); starts = now (starts .exit); lengths = now (lengths .exit) }) (drop 1 (now (frame .exit))) (r .answer) (r .state) ⌝ }
+    ensures { λ r. ⌜ (take 1 (now (frame .exit)) ≡ 1 ∷ []) × DrainStep greys 0 state (memory (now (values .entry)) (now (positions .entry)) (now (starts .entry)) (now (lengths .entry))) (drop 1 (now (frame .entry))) (memory (now (values .exit)) (now (positions .exit)) (now (starts .exit)) (now (lengths .exit))) (drop 1 (now (frame .exit))) (r .answer) (r .state) ⌝ }
 {
     frame[0] = 1;
     picture::grey::drain(state, &mut frame[1..], values, positions, starts, lengths)

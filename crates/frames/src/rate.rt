@@ -4,8 +4,9 @@ ghost use mathlib.Core.Path.{_≡_};
 ghost use Prim.Native.Nat.{_*_};
 ghost use lib.ListN.{length};
 ghost use Rattle.sample.specs.Samples.{rates};
+ghost use Rattle.memory.specs.Memory.{memory};
 ghost use Rattle.picture_state.specs.Step.{RowStep};
-ghost use Rattle.frames.specs.Floats.{floatsOf};
+ghost use Rattle.frames.specs.Inner.{floatsOf};
 use picture::State;
 use picture::Stepped;
 
@@ -21,7 +22,7 @@ pub fn step(
     lengths: &mut [u8],
 ) -> Stepped
     requires { ⌜ length (now bytes) ≡ length (now row) * 4 ⌝ }
-    ensures { λ r. ⌜ RowStep rates 1 state (record { values = now (values .entry); positions = now (positions .entry); starts = now (starts .entry); lengths = now (lengths .entry) }) (floatsOf (length (now (row .entry))) (now (bytes .entry))) (now (out .entry)) (record { values = now (values .exit); positions = now (positions .exit); starts = now (starts .exit); lengths = now (lengths .exit) }) (now (out .exit)) (r .answer) (r .state) ⌝ }
+    ensures { λ r. ⌜ RowStep rates 1 state (memory (now (values .entry)) (now (positions .entry)) (now (starts .entry)) (now (lengths .entry))) (floatsOf (length (now (row .entry))) (now (bytes .entry))) (now (out .entry)) (memory (now (values .exit)) (now (positions .exit)) (now (starts .exit)) (now (lengths .exit))) (now (out .exit)) (r .answer) (r .state) ⌝ }
 {
     crate::floats::take_in(bytes, row);
     picture::rate::row(state, &row[..], out, values, positions, starts, lengths)

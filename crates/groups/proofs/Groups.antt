@@ -8,15 +8,15 @@ use borrow.Author.Tests.{lt-ltb, le-ltb, eq-eqb, ne-eqb, eqb-true}
 use lib.Dec.{eqb}
 use lib.ListN.{length, getD}
 use Rattle.morph.proofs.Lists.{split}
+use Rattle.morph.specs.Numbers.{firstOf}
+use Rattle.morph.proofs.Numbers.{first-zero, first-one, skip, found}
 use Rattle.plan_record.specs.declared.Plan.{Plan}
-use Rattle.plan_record.specs.Numbers.{firstOf}
 use Rattle.plan_record.specs.Plan.{countNumber}
-use Rattle.plan_record.proofs.Numbers.{first-zero, first-one}
 use Rattle.job_read.specs.declared.Head.{Head}
 use Rattle.job_read.specs.Layout.{widthFrom}
 use Rattle.job_read.specs.Job.{missing, headNumber, headAnswered}
-use Rattle.job_read.proofs.Sections.{skip, found, head-number, head-there}
-use Rattle.groups.specs.Groups.{groupNumber, cellsNumber, imageNumber, stagesAsked}
+use Rattle.job_read.proofs.Sections.{head-number, head-there}
+use Rattle.groups.specs.Inner.{groupNumber, stagesAsked, cellsNumber, imageNumber}
 
 -- ---- the count and the stages
 

@@ -7,15 +7,15 @@ use borrow.Author.Tests.{ltb-false, le-ltb}
 use lib.Dec.{ltb}
 use lib.ListN.{length, getD}
 use lib.Seq.{length-take-le}
+use Rattle.morph.proofs.Numbers.{first-zero, first-skip, first-one, given-zero}
 use Rattle.plan_record.specs.declared.Stage.{Stage}
 use Rattle.plan_record.specs.declared.Plan.{Plan}
 use Rattle.plan_record.specs.Plan.{used, total, cellsOf, cellsNeeded, recordsNeeded, recordNumber}
-use Rattle.plan_record.proofs.Numbers.{first-zero, first-skip, first-one, given-zero}
 use Rattle.job_read.specs.Layout.{widthFrom, rowsFrom}
 use Rattle.job_read.specs.Job.{headNumber}
 use Rattle.plan_record.specs.Numbers.{sampleNumber, sizeNumber}
 use Rattle.picture_state.specs.Numbers.{memoryNumber, startNumber}
-use Rattle.groups.specs.Groups.{groupNumber, cellsNumber, imageNumber}
+use Rattle.groups.specs.Inner.{groupNumber, cellsNumber, imageNumber}
 
 records-cells : (width : ℕ) (stages : List Stage) → length stages * width ≤ total (cellsOf width) stages
 records-cells width [] = omega arith

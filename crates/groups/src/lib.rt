@@ -5,8 +5,8 @@ ghost use mathlib.Core.Path.{_≡_};
 ghost use mathlib.Core.List.{[], _∷_};
 ghost use Prim.Native.Nat.{_≤_};
 ghost use Rattle.job_read.specs.Job.{headAnswered};
-ghost use Rattle.picture_state.specs.Step.{saidOf};
-ghost use Rattle.groups.specs.Groups.{groupNumber, tailNumber, imageNumber, stagesAsked, nextOf};
+ghost use Rattle.picture_state.specs.Step.{rowSaidOf};
+ghost use Rattle.groups.specs.Inner.{groupNumber, tailNumber, stagesAsked, imageNumber, nextOf};
 use job::Head;
 use picture::Answer;
 use plan_record::Plan;
@@ -101,7 +101,7 @@ pub enum Next {
 }
 
 pub fn next_of(answer: Answer) -> Next
-    ensures { λ r. ⌜ r ≡ nextOf (saidOf answer) ⌝ }
+    ensures { λ r. ⌜ r ≡ nextOf (rowSaidOf answer) ⌝ }
 {
     match answer {
         Answer::Row {

@@ -14,21 +14,23 @@ use Rattle.morph.specs.Lists.{tabulate}
 use Rattle.morph.proofs.Lists.{split, neither, length-tabulate, tabulate-ext}
 use Rattle.morph.specs.declared.Kind.{Kind}
 use Rattle.morph.specs.declared.Kind.the-variants.{Erosion, Dilation}
+use Rattle.morph.specs.Numbers.{given, firstOf, kindNumber, extentNumber}
+use Rattle.morph.proofs.Numbers.{first-one, first-skip, first-zero, all-zero, given-zero}
+use Rattle.morph.specs.Order.{kindOf}
 use Rattle.plan_record.specs.declared.Stage.{Stage}
 use Rattle.plan_record.specs.declared.Plan.{Plan}
-use Rattle.plan_record.specs.Numbers.{given, firstOf, sampleNumber, sizeNumber}
-use Rattle.plan_record.specs.Plan.{unused, planOf, used, countNumber, kindNumber, extentNumber, kindFrom, recordStageNumber, recordStagesNumber, recordNumber, stageFrom, stageNumber, stagesFrom, stagesNumber, planNumber, withExtents}
-use Rattle.plan_record.proofs.Numbers.{first-one, first-skip, first-zero, all-zero, given-zero}
+use Rattle.plan_record.specs.Numbers.{sampleNumber, sizeNumber}
+use Rattle.plan_record.specs.Plan.{unused, planOf, used, countNumber, recordStageNumber, recordStagesNumber, recordNumber, stageFrom, stageNumber, stagesFrom, stagesNumber, planNumber, withExtents}
 use Rattle.plan_record.proofs.Laws.{used-plan, count-accepted, count-zero}
 use Rattle.plan_record.proofs.Named.{judged-count, judged-reading}
 use Rattle.job_read.specs.declared.Job.{Job}
 use Rattle.job_read.specs.declared.JobRead.{JobRead}
-use Rattle.job_read.specs.Layout.{kindByte, stageBytes, stagesBytes, planBytes, headBytes, encode, rowBytes, headAt, rowsAt, widthFrom, rowsFrom, jobFrom, Valid, IsJob}
+use Rattle.job_read.specs.Layout.{kindByte, stageBytes, stagesBytes, planBytes, headBytes, encode, rowBytes, headBegins, pixelsBegin, widthFrom, rowsFrom, jobFrom, Valid, IsJob}
 use Rattle.job_read.specs.Job.{planSectionNumber, headNumber, headSectionNumber, rowsNumber, jobNumber, jobRead}
-use Rattle.job_view.specs.View.{rowAt, thereTo, viewNumber}
+use Rattle.job_view.specs.View.{rowBegins, thereTo, viewNumber}
 use Rattle.job_write.specs.declared.Written.{Written}
 use Rattle.job_write.specs.declared.Written.the-variants.{Bytes}
-use Rattle.job_write.specs.Write.{writeNumber, answerOf, Wrote}
+use Rattle.job_write.specs.Write.{writeNumber, writtenOf, Wrote}
 use Rattle.job_read.proofs.Sections.{plan-there, section-stages, head-there, head-size, head-section-there, section-head, rows-there, rows-exact, job-there, job-rows, job-accepted}
 use Rattle.job_write.proofs.Writing.{length-stages, length-encode, write-fine}
 
@@ -59,7 +61,7 @@ module _ (xs : List ℕ) where
 
 -- ---- what was read, written again
 
-kind-back : (n : ℕ) → n ≤ 1 → kindByte (kindFrom n) ≡ n
+kind-back : (n : ℕ) → n ≤ 1 → kindByte (kindOf n) ≡ n
 kind-back zero h = refl
 kind-back (suc zero) h = refl
 kind-back (suc (suc n)) h = absurd (omega arith)
@@ -71,7 +73,7 @@ stage-back (a ∷ b ∷ []) h e = absurd (omega arith)
 stage-back (a ∷ b ∷ c ∷ []) h e = absurd (omega arith)
 stage-back (a ∷ b ∷ c ∷ d ∷ []) h e = absurd (omega arith)
 stage-back (a ∷ b ∷ c ∷ d ∷ f ∷ r) h e =
-    ap (λ (n : ℕ). n ∷ b ∷ c ∷ d ∷ f ∷ []) (kind-back a (ltb-false 1 a (given-zero 1 (ltb 1 a) (first-zero (kindNumber a) (extentNumber b c d f ∷ []) e .0))))
+    ap (λ (n : ℕ). n ∷ b ∷ c ∷ d ∷ f ∷ []) (kind-back a (ltb-false 1 a (given-zero 1 (ltb 1 a) (first-zero (kindNumber a) (extentNumber (b ∷ c ∷ d ∷ f ∷ []) ∷ []) e .0))))
 
 stages-back : (n : ℕ) (xs : List ℕ) → n * 5 ≤ length xs → stagesNumber n xs ≡ 0 → stagesBytes (stagesFrom n xs) ≡ take (n * 5) xs
 unfolding stagesFrom stagesNumber
@@ -107,7 +109,7 @@ module _ (bytes : List ℕ) (byte : (i : ℕ) → getD bytes i 0 < 256) (e : job
   count = getD bytes 0 0
 
   abbrev head : List ℕ
-  head = drop (headAt count) bytes
+  head = drop (headBegins count) bytes
 
   abbrev stages : List Stage
   stages = stagesFrom count (drop 1 bytes)
@@ -116,25 +118,25 @@ module _ (bytes : List ℕ) (byte : (i : ℕ) → getD bytes i 0 < 256) (e : job
   unfolding stagesFrom
   length-stages-read = length-tabulate count (λ i. stageFrom (drop 1 bytes) (i * 5))
 
-  encode-read : encode (jobFrom bytes) ≡ take (rowsAt count) bytes
+  encode-read : encode (jobFrom bytes) ≡ take (pixelsBegin count) bytes
   unfolding encode jobFrom
   encode-read =
       let z = job-there bytes e in
       let p = plan-there bytes (z .0) in
-      let h = head-section-there bytes (headAt count) (z .1) in
+      let h = head-section-there bytes (headBegins count) (z .1) in
       let s : stagesBytes stages ≡ take (count * 5) (drop 1 bytes) = stages-back count (drop 1 bytes) (let w = p .whole in omega (arith, length-drop 1 bytes)) (p .judged) in
       let a : length stages ∷ stagesBytes (used (planOf stages)) ≡ count ∷ take (count * 5) (drop 1 bytes) = cc (length-stages-read, used-plan stages, s) in
-      let b : count ∷ take (count * 5) (drop 1 bytes) ≡ take (headAt count) bytes = ap (λ l. l ++ take (count * 5) (drop 1 bytes)) (sym (front-byte bytes (p .some))) ∙ sym (take-add 1 (count * 5) bytes) in
+      let b : count ∷ take (count * 5) (drop 1 bytes) ≡ take (headBegins count) bytes = ap (λ l. l ++ take (count * 5) (drop 1 bytes)) (sym (front-byte bytes (p .some))) ∙ sym (take-add 1 (count * 5) bytes) in
       let f : headBytes (getD head 0 0) (widthFrom head) (rowsFrom head) ≡ take 5 head =
-      head-back head (let w = h .0 in omega (arith, length-drop (headAt count) bytes)) (λ i. rw (getD-drop (headAt count) bytes i 0) (byte (headAt count + i))) in
-      ap (λ l. l ++ headBytes (getD head 0 0) (widthFrom head) (rowsFrom head)) (a ∙ b) ∙ ap (λ l. take (headAt count) bytes ++ l) f ∙ sym (take-add (headAt count) 5 bytes)
+      head-back head (let w = h .0 in omega (arith, length-drop (headBegins count) bytes)) (λ i. rw (getD-drop (headBegins count) bytes i 0) (byte (headBegins count + i))) in
+      ap (λ l. l ++ headBytes (getD head 0 0) (widthFrom head) (rowsFrom head)) (a ∙ b) ∙ ap (λ l. take (headBegins count) bytes ++ l) f ∙ sym (take-add (headBegins count) 5 bytes)
 
   valid-read : Valid (jobFrom bytes)
   unfolding jobFrom planNumber
   valid-read =
       let z = job-there bytes e in
       let p = plan-there bytes (z .0) in
-      let h = head-there head (head-section-there bytes (headAt count) (z .1) .1) in
+      let h = head-there head (head-section-there bytes (headBegins count) (z .1) .1) in
       record {
         plan = judged-reading count (drop 1 bytes) (sym (count-accepted count (stagesNumber count (drop 1 bytes)) (sym (p .few)) refl (sym (p .judged))));
         unused = ap planOf (sym (used-plan stages));
@@ -143,7 +145,7 @@ module _ (bytes : List ℕ) (byte : (i : ℕ) → getD bytes i 0 < 256) (e : job
         width = h .width;
         some-rows = h .some-rows;
         rows = h .rows;
-        at = ap rowsAt (sym length-stages-read);
+        at = ap pixelsBegin (sym length-stages-read);
       }
 
   -- an accepted byte string is the job that is handed back
@@ -153,14 +155,14 @@ module _ (bytes : List ℕ) (byte : (i : ℕ) → getD bytes i 0 < 256) (e : job
       let r = rows-there bytes (jobFrom bytes) (job-there bytes e .2) in
       record {
         valid = valid-read;
-        pixels = drop (rowsAt count) bytes;
-        whole = sym (take-append-drop (rowsAt count) bytes) ∙ ap (λ l. l ++ drop (rowsAt count) bytes) (sym encode-read);
-        size = length-drop (rowsAt count) bytes ∙ omega arith;
+        pixels = drop (pixelsBegin count) bytes;
+        whole = sym (take-append-drop (pixelsBegin count) bytes) ∙ ap (λ l. l ++ drop (pixelsBegin count) bytes) (sym encode-read);
+        size = length-drop (pixelsBegin count) bytes ∙ omega arith;
       }
 
 -- ---- what was written, read again
 
-kind-again : (k : Kind) → kindFrom (kindByte k) ≡ k
+kind-again : (k : Kind) → kindOf (kindByte k) ≡ k
 kind-again Erosion = refl
 kind-again Dilation = refl
 
@@ -226,13 +228,13 @@ module _ (bytes : List ℕ) (job : Job) (is : IsJob bytes job) where
   plan-bytes : drop 1 bytes ≡ stagesBytes ss ++ after
   plan-bytes = ap (drop 1) spread
 
-  head-bytes : drop (headAt (getD bytes 0 0)) bytes ≡ after
+  head-bytes : drop (headBegins (getD bytes 0 0)) bytes ≡ after
   head-bytes =
-      let n : headAt (getD bytes 0 0) ≡ suc (job .plan .count * 5) = omega (arith, count-again) in
+      let n : headBegins (getD bytes 0 0) ≡ suc (job .plan .count * 5) = omega (arith, count-again) in
       ap (λ (k : ℕ). drop k bytes) n ∙ ap (drop (suc (job .plan .count * 5))) spread
       ∙ drop-at (stagesBytes ss) after (job .plan .count * 5) (length-stages ss ∙ ap (λ (k : ℕ). k * 5) length-ss)
 
-  length-bytes : length bytes ≡ rowsAt (job .plan .count) + job .rows * rowBytes job
+  length-bytes : length bytes ≡ pixelsBegin (job .plan .count) + job .rows * rowBytes job
   length-bytes =
       let s = length-stages ss ∙ ap (λ (k : ℕ). k * 5) length-ss in
       let a : length (stagesBytes ss ++ after) ≡ length (stagesBytes ss) + length after = length-append (stagesBytes ss) after in
@@ -247,10 +249,10 @@ module _ (bytes : List ℕ) (job : Job) (is : IsJob bytes job) where
   unfolding jobFrom
   same =
       let p : planOf (stagesFrom (getD bytes 0 0) (drop 1 bytes)) ≡ job .plan = ap planOf stages-read ∙ sym (is .valid .unused) in
-      let s : getD (drop (headAt (getD bytes 0 0)) bytes) 0 0 ≡ job .sample = ap (λ l. getD l 0 0) head-bytes in
-      let w : widthFrom (drop (headAt (getD bytes 0 0)) bytes) ≡ job .width = ap widthFrom head-bytes ∙ two-again (job .width) in
-      let h : rowsFrom (drop (headAt (getD bytes 0 0)) bytes) ≡ job .rows = ap rowsFrom head-bytes ∙ two-again (job .rows) in
-      let a : rowsAt (getD bytes 0 0) ≡ job .at = ap rowsAt count-again ∙ sym (is .valid .at) in
+      let s : getD (drop (headBegins (getD bytes 0 0)) bytes) 0 0 ≡ job .sample = ap (λ l. getD l 0 0) head-bytes in
+      let w : widthFrom (drop (headBegins (getD bytes 0 0)) bytes) ≡ job .width = ap widthFrom head-bytes ∙ two-again (job .width) in
+      let h : rowsFrom (drop (headBegins (getD bytes 0 0)) bytes) ≡ job .rows = ap rowsFrom head-bytes ∙ two-again (job .rows) in
+      let a : pixelsBegin (getD bytes 0 0) ≡ job .at = ap pixelsBegin count-again ∙ sym (is .valid .at) in
       fields job p s w h a
 
   each-stage : (i : ℕ) → i < length ss → recordStageNumber (getD ss i unused) ≡ 0
@@ -269,13 +271,13 @@ module _ (bytes : List ℕ) (job : Job) (is : IsJob bytes job) where
       let k = count-again in
       sym (section-stages bytes (omega arith) c (omega arith)) ∙ n
 
-  head-accepted : headSectionNumber bytes (headAt (getD bytes 0 0)) ≡ 0
+  head-accepted : headSectionNumber bytes (headBegins (getD bytes 0 0)) ≡ 0
   head-accepted =
       let v = is .valid in
       let l = length-bytes in
       let k = count-again in
       let h : 0 ≡ headNumber after = head-size after (sample-fine (job .sample) (v .sample)) (sym (two-again (job .width))) (sym (two-again (job .rows))) (size-fine (job .width) (job .rows) (v .some-width) (v .width) (v .some-rows) (v .rows)) in
-      sym (section-head bytes (headAt (getD bytes 0 0)) (omega arith)) ∙ ap headNumber head-bytes ∙ sym h
+      sym (section-head bytes (headBegins (getD bytes 0 0)) (omega arith)) ∙ ap headNumber head-bytes ∙ sym h
 
   rows-accepted : rowsNumber bytes (jobFrom bytes) ≡ 0
   rows-accepted =
@@ -302,7 +304,7 @@ pub read-complete : (bytes : List ℕ) (job : Job) {r : JobRead} → r ≡ jobRe
 read-complete bytes job e is = e ∙ sym (job-accepted bytes (sym (accepted bytes job is)) refl (sym (same bytes job is)))
 
 -- every job that can be read is written, where the output has room for it
-module _ (job : Job) (out : List ℕ) (valid : Valid job) (room : rowsAt (job .plan .count) ≤ length out) where
+module _ (job : Job) (out : List ℕ) (valid : Valid job) (room : pixelsBegin (job .plan .count) ≤ length out) where
   write-accepted : 0 ≡ writeNumber job out
   write-accepted =
       write-fine job out (valid .plan) (sample-fine (job .sample) (valid .sample)) (sym (size-fine (job .width) (job .rows) (valid .some-width) (valid .width) (valid .some-rows) (valid .rows))) room
@@ -314,18 +316,18 @@ module _ (job : Job) (out : List ℕ) (valid : Valid job) (room : rowsAt (job .p
       omega arith
 
   module _ {out′ : List ℕ} {r : Written} (w : Wrote job out out′ r) where
-    pub write-answer : r ≡ Bytes (rowsAt (job .plan .count))
-    write-answer = w .answer ∙ ap (λ (n : ℕ). answerOf n (rowsAt (job .plan .count))) (sym write-accepted)
+    pub write-answer : r ≡ Bytes (pixelsBegin (job .plan .count))
+    write-answer = w .answer ∙ ap (λ (n : ℕ). writtenOf n (pixelsBegin (job .plan .count))) (sym write-accepted)
 
-    pub write-front : take (rowsAt (job .plan .count)) out′ ≡ encode job
+    pub write-front : take (pixelsBegin (job .plan .count)) out′ ≡ encode job
     write-front =
-        ap (take (rowsAt (job .plan .count))) (w .output ∙ simp (eq-eqb (writeNumber job out) 0 (sym write-accepted)))
-        ∙ take-at (encode job) (drop (rowsAt (job .plan .count)) out) (rowsAt (job .plan .count)) (length-encode job places)
+        ap (take (pixelsBegin (job .plan .count))) (w .output ∙ simp (eq-eqb (writeNumber job out) 0 (sym write-accepted)))
+        ∙ take-at (encode job) (drop (pixelsBegin (job .plan .count)) out) (pixelsBegin (job .plan .count)) (length-encode job places)
 
     -- reading what was written, with rows after it, gives the record back
-    pub write-read : (pixels : List ℕ) {s : JobRead} → length pixels ≡ job .rows * rowBytes job → s ≡ jobRead (take (rowsAt (job .plan .count)) out′ ++ pixels) → s ≡ record { number = 0; job = job }
+    pub write-read : (pixels : List ℕ) {s : JobRead} → length pixels ≡ job .rows * rowBytes job → s ≡ jobRead (take (pixelsBegin (job .plan .count)) out′ ++ pixels) → s ≡ record { number = 0; job = job }
     write-read pixels l e =
-        read-complete (take (rowsAt (job .plan .count)) out′ ++ pixels) job e (record { valid = valid; pixels = pixels; whole = ap (λ f. f ++ pixels) write-front; size = l })
+        read-complete (take (pixelsBegin (job .plan .count)) out′ ++ pixels) job e (record { valid = valid; pixels = pixels; whole = ap (λ f. f ++ pixels) write-front; size = l })
 
 -- writing what was read gives the bytes back
 pub read-write : (bytes : List ℕ) {s : JobRead} (out : List ℕ) {out′ : List ℕ} {r : Written} → ((i : ℕ) → getD bytes i 0 < 256) → s ≡ jobRead bytes → s .number ≡ 0
@@ -333,7 +335,7 @@ pub read-write : (bytes : List ℕ) {s : JobRead} (out : List ℕ) {out′ : Lis
 read-write bytes {s} out {out′} byte e z room w =
     let is = read-sound bytes e byte z in
     let at = is .valid .at in
-    let n : rowsAt (s .job .plan .count) ≤ length out = rw at at room in
+    let n : pixelsBegin (s .job .plan .count) ≤ length out = rw at at room in
     let front : take (s .job .at) bytes ≡ encode (s .job) =
     ap (take (s .job .at)) (is .whole) ∙ take-at (encode (s .job)) (is .pixels) (s .job .at) (length-encode (s .job) (places (s .job) out (is .valid) n) ∙ sym at) in
     (write-answer (s .job) out (is .valid) n w ∙ ap Bytes (sym at), ap (λ (k : ℕ). take k out′) at ∙ write-front (s .job) out (is .valid) n w ∙ sym front)
@@ -349,7 +351,7 @@ view-job bytes job is i j =
     let l = length-bytes bytes job is in
     let a = is .valid .at in
     let m = mul-le-mul-right {m = j} {n = job .rows} (rowBytes job) (ltb-false (job .rows) j (q .1)) in
-    let t : thereTo bytes job j ≡ true = simp (le-leb (job .sample) 1 (is .valid .sample), le-leb (rowAt job j) (length bytes) (omega arith)) in
+    let t : thereTo bytes job j ≡ true = simp (le-leb (job .sample) 1 (is .valid .sample), le-leb (rowBegins job j) (length bytes) (omega arith)) in
     rw (p, t, and-false (ltb i j)) refl)
 
 -- two answers of a writing, and what they leave, are the same

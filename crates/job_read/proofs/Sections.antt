@@ -9,26 +9,22 @@ use lib.Dec.{eqb, ltb}
 use lib.ListN.{length, getD, take, drop, length-drop, List·getD-append}
 use lib.Seq.{getD-drop, getD-take, length-take-le}
 use Rattle.morph.proofs.Lists.{split, length-tabulate, tabulate-ext}
+use Rattle.morph.specs.Numbers.{given, firstOf}
+use Rattle.morph.proofs.Numbers.{first-one, first-zero, given-zero, skip, found}
 use Rattle.plan_record.specs.declared.Plan.{Plan}
 use Rattle.plan_record.specs.declared.Reading.{Reading}
-use Rattle.plan_record.specs.Numbers.{given, firstOf, sampleNumber, sizeNumber}
-use Rattle.plan_record.specs.Plan.{planOf, countNumber, stageFrom, stageNumber, stagesFrom, stagesNumber, planNumber, planRead, answered}
-use Rattle.plan_record.proofs.Numbers.{first-one, first-skip, first-found, first-zero, given-zero, size-accepted}
+use Rattle.plan_record.specs.Numbers.{sampleNumber, sizeNumber}
+use Rattle.plan_record.specs.Plan.{planOf, countNumber, stageFrom, stageNumber, stagesFrom, stagesNumber, planNumber, planRead, readingOf}
+use Rattle.plan_record.proofs.Numbers.{size-accepted}
 use Rattle.plan_record.proofs.Laws.{refused-answer, count-accepted}
 use Rattle.plan_record.proofs.Named.{counted}
 use Rattle.job_read.specs.declared.Job.{Job}
 use Rattle.job_read.specs.declared.Head.{Head}
 use Rattle.job_read.specs.declared.JobRead.{JobRead}
-use Rattle.job_read.specs.Layout.{rowBytes, headAt, widthFrom, rowsFrom, jobFrom}
+use Rattle.job_read.specs.Layout.{rowBytes, headBegins, widthFrom, rowsFrom, jobFrom}
 use Rattle.job_read.specs.Job.{missing, planSectionNumber, planSection, headNumber, headAnswered, headSectionNumber, rowsNumber, jobNumber, noJob, jobRead}
 
--- ---- one rule after another, said of a number that stands for the whole
-
-pub skip : {m : ℕ} (a : ℕ) (l : List ℕ) → a ≡ 0 → m ≡ firstOf l → m ≡ firstOf (a ∷ l)
-skip a l e q = q ∙ sym (first-skip a l e)
-
-pub found : {m : ℕ} (a : ℕ) (l : List ℕ) → m ≡ a → (m ≡ 0 → ⊥) → m ≡ firstOf (a ∷ l)
-found a l e h = e ∙ sym (first-found a l (λ z. h (e ∙ z)))
+-- ---- bytes that are there
 
 present : (n : ℕ) (bytes : List ℕ) → n ≤ length bytes → missing n bytes ≡ 0
 present n bytes h = simp (le-ltb (length bytes) n h)
@@ -49,7 +45,7 @@ module _ (bytes : List ℕ) where
   stages = stagesNumber count (drop 1 bytes)
 
   after-count : List ℕ
-  after-count = missing (headAt count) bytes ∷ stagesNumber count (drop 1 bytes) ∷ []
+  after-count = missing (headBegins count) bytes ∷ stagesNumber count (drop 1 bytes) ∷ []
 
   pub section-empty : length bytes < 1 → 13 ≡ planSectionNumber bytes
   unfolding planSectionNumber after-count
@@ -61,32 +57,32 @@ module _ (bytes : List ℕ) where
     section-count e h = skip (missing 1 bytes) (countNumber count ∷ after-count) (present 1 bytes some) (found (countNumber count) after-count e h)
 
     module _ (few : countNumber count ≡ 0) where
-      pub section-missing : length bytes < headAt count → 13 ≡ planSectionNumber bytes
+      pub section-missing : length bytes < headBegins count → 13 ≡ planSectionNumber bytes
       unfolding planSectionNumber after-count
       section-missing h =
           skip (missing 1 bytes) (countNumber count ∷ after-count) (present 1 bytes some)
-          (skip (countNumber count) after-count few (found (missing (headAt count) bytes) (stagesNumber count (drop 1 bytes) ∷ []) (absent (headAt count) bytes h) (λ z. omega arith)))
+          (skip (countNumber count) after-count few (found (missing (headBegins count) bytes) (stagesNumber count (drop 1 bytes) ∷ []) (absent (headBegins count) bytes h) (λ z. omega arith)))
 
-      pub section-stages : headAt count ≤ length bytes → stagesNumber count (drop 1 bytes) ≡ planSectionNumber bytes
+      pub section-stages : headBegins count ≤ length bytes → stagesNumber count (drop 1 bytes) ≡ planSectionNumber bytes
       unfolding planSectionNumber after-count
       section-stages h =
           skip (missing 1 bytes) (countNumber count ∷ after-count) (present 1 bytes some)
           (skip (countNumber count) after-count few
-          (skip (missing (headAt count) bytes) (stagesNumber count (drop 1 bytes) ∷ []) (present (headAt count) bytes h) (sym (first-one (stagesNumber count (drop 1 bytes))))))
+          (skip (missing (headBegins count) bytes) (stagesNumber count (drop 1 bytes) ∷ []) (present (headBegins count) bytes h) (sym (first-one (stagesNumber count (drop 1 bytes))))))
 
   pub record PlanThere : Type 0 where
     pub some : 1 ≤ length bytes
     pub few : countNumber count ≡ 0
-    pub whole : headAt count ≤ length bytes
+    pub whole : headBegins count ≤ length bytes
     pub judged : stagesNumber count (drop 1 bytes) ≡ 0
 
   pub plan-there : planSectionNumber bytes ≡ 0 → PlanThere
   unfolding planSectionNumber
   plan-there e =
-      let a = first-zero (missing 1 bytes) (countNumber count ∷ missing (headAt count) bytes ∷ stagesNumber count (drop 1 bytes) ∷ []) e in
-      let b = first-zero (countNumber count) (missing (headAt count) bytes ∷ stagesNumber count (drop 1 bytes) ∷ []) (a .1) in
-      let c = first-zero (missing (headAt count) bytes) (stagesNumber count (drop 1 bytes) ∷ []) (b .1) in
-      record { some = there 1 bytes (a .0); few = b .0; whole = there (headAt count) bytes (c .0); judged = sym (first-one (stagesNumber count (drop 1 bytes))) ∙ c .1 }
+      let a = first-zero (missing 1 bytes) (countNumber count ∷ missing (headBegins count) bytes ∷ stagesNumber count (drop 1 bytes) ∷ []) e in
+      let b = first-zero (countNumber count) (missing (headBegins count) bytes ∷ stagesNumber count (drop 1 bytes) ∷ []) (a .1) in
+      let c = first-zero (missing (headBegins count) bytes) (stagesNumber count (drop 1 bytes) ∷ []) (b .1) in
+      record { some = there 1 bytes (a .0); few = b .0; whole = there (headBegins count) bytes (c .0); judged = sym (first-one (stagesNumber count (drop 1 bytes))) ∙ c .1 }
 
 -- the stages are read from their own bytes alone
 
@@ -108,7 +104,7 @@ module _ (count : ℕ) (xs ys : List ℕ) (agree : (k : ℕ) → k < count * 5 �
   unfolding stagesNumber
   same-numbers = ap firstOf (tabulate-ext count (λ i. stageNumber xs (i * 5)) (λ i. stageNumber ys (i * 5)) same-number)
 
-module _ (bytes : List ℕ) {part : List ℕ} (some : 1 ≤ length bytes) (few : countNumber (getD bytes 0 0) ≡ 0) (whole : headAt (getD bytes 0 0) ≤ length bytes)
+module _ (bytes : List ℕ) {part : List ℕ} (some : 1 ≤ length bytes) (few : countNumber (getD bytes 0 0) ≡ 0) (whole : headBegins (getD bytes 0 0) ≤ length bytes)
     (e : part ≡ take (getD bytes 0 0 * 5) (drop 1 bytes)) where
   agree : (pad : List ℕ) (k : ℕ) → k < getD bytes 0 0 * 5 → getD (part ++ pad) k 0 ≡ getD (drop 1 bytes) k 0
   agree pad k h =
@@ -122,7 +118,7 @@ module _ (bytes : List ℕ) {part : List ℕ} (some : 1 ≤ length bytes) (few :
       let n : stagesNumber c (part ++ pad) ≡ stagesNumber c (drop 1 bytes) = same-numbers c (part ++ pad) (drop 1 bytes) (agree pad) in
       let m : planSectionNumber bytes ≡ planNumber c (part ++ pad) = count-accepted c (stagesNumber c (part ++ pad)) (sym few) refl (sym (section-stages bytes some few whole) ∙ sym n) in
       let s : stagesFrom c (part ++ pad) ≡ stagesFrom c (drop 1 bytes) = same-stages c (part ++ pad) (drop 1 bytes) (agree pad) in
-      q ∙ ap (λ (m : ℕ). answered m (planOf (stagesFrom c (part ++ pad)))) (sym m) ∙ ap (λ ss. answered (planSectionNumber bytes) (planOf ss)) s
+      q ∙ ap (λ (m : ℕ). readingOf m (planOf (stagesFrom c (part ++ pad)))) (sym m) ∙ ap (λ ss. readingOf (planSectionNumber bytes) (planOf ss)) s
 
 pub section-refused : (bytes : List ℕ) {r : Reading} {n : ℕ} → r ≡ record { number = n; plan = planOf [] } → n ≡ planSectionNumber bytes → (n ≡ 0 → ⊥) → r ≡ planSection bytes
 unfolding planSection
@@ -224,7 +220,7 @@ rows-there bytes job e =
 
 module _ (bytes : List ℕ) where
   abbrev headNo : ℕ
-  headNo = headSectionNumber bytes (headAt (getD bytes 0 0))
+  headNo = headSectionNumber bytes (headBegins (getD bytes 0 0))
 
   abbrev rowsNo : ℕ
   rowsNo = rowsNumber bytes (jobFrom bytes)
@@ -264,7 +260,7 @@ module _ (bytes : List ℕ) where
   pub record PlanRead (section : Reading) : Type 0 where
     pub zero : planSectionNumber bytes ≡ 0
     pub plan : section .plan ≡ planOf (stagesFrom (getD bytes 0 0) (drop 1 bytes))
-    pub end : 1 + section .plan .count * 5 ≡ headAt (getD bytes 0 0)
+    pub end : 1 + section .plan .count * 5 ≡ headBegins (getD bytes 0 0)
     pub few : section .plan .count ≤ 16
     pub whole : 1 + section .plan .count * 5 ≤ length bytes
 
@@ -304,7 +300,7 @@ head-read bytes end {h} e z =
     let r = ap (λ h. h .rows) f in
     record { zero = n; sample = ap (λ h. h .sample) f; width = w; rows = r; there = s .0; narrow = omega (arith, w, t .width); few = omega (arith, r, t .rows) }
 
-pub same-job : (bytes : List ℕ) {plan : Plan} {sample width rows at end : ℕ} → plan ≡ planOf (stagesFrom (getD bytes 0 0) (drop 1 bytes)) → end ≡ headAt (getD bytes 0 0)
+pub same-job : (bytes : List ℕ) {plan : Plan} {sample width rows at end : ℕ} → plan ≡ planOf (stagesFrom (getD bytes 0 0) (drop 1 bytes)) → end ≡ headBegins (getD bytes 0 0)
     → sample ≡ getD (drop end bytes) 0 0 → width ≡ widthFrom (drop end bytes) → rows ≡ rowsFrom (drop end bytes) → at ≡ end + 5
     → record { plan = plan; sample = sample; width = width; rows = rows; at = at } ≡ jobFrom bytes
 unfolding jobFrom

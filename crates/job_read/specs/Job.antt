@@ -5,13 +5,14 @@ use mathlib.Core.List.{List, [], _∷_}
 use Prim.Native.Nat.{ℕ, _+_, _*_}
 use lib.Dec.{eqb, ltb}
 use lib.ListN.{length, getD, drop}
+use Rattle.morph.specs.Numbers.{given, firstOf}
 use Rattle.plan_record.specs.declared.Reading.{Reading}
-use Rattle.plan_record.specs.Numbers.{given, firstOf, sampleNumber, sizeNumber}
-use Rattle.plan_record.specs.Plan.{planOf, countNumber, stagesFrom, stagesNumber, answered}
+use Rattle.plan_record.specs.Numbers.{sampleNumber, sizeNumber}
+use Rattle.plan_record.specs.Plan.{planOf, countNumber, stagesFrom, stagesNumber, readingOf}
 use Rattle.job_read.specs.declared.Job.{Job}
 use Rattle.job_read.specs.declared.Head.{Head}
 use Rattle.job_read.specs.declared.JobRead.{JobRead}
-use Rattle.job_read.specs.Layout.{rowBytes, headAt, widthFrom, rowsFrom, jobFrom}
+use Rattle.job_read.specs.Layout.{rowBytes, headBegins, widthFrom, rowsFrom, jobFrom}
 
 -- "13 | a job ends early": fewer than n bytes
 abbrev pub missing : ℕ → List ℕ → ℕ
@@ -22,10 +23,10 @@ missing n bytes = given 13 (ltb (length bytes) n)
 -- the count's 13, 1; the stages' 13, then stage by stage 2, 3
 unfoldable pub planSectionNumber : List ℕ → ℕ
 planSectionNumber bytes =
-    firstOf (missing 1 bytes ∷ countNumber (getD bytes 0 0) ∷ missing (headAt (getD bytes 0 0)) bytes ∷ stagesNumber (getD bytes 0 0) (drop 1 bytes) ∷ [])
+    firstOf (missing 1 bytes ∷ countNumber (getD bytes 0 0) ∷ missing (headBegins (getD bytes 0 0)) bytes ∷ stagesNumber (getD bytes 0 0) (drop 1 bytes) ∷ [])
 
 unfoldable pub planSection : List ℕ → Reading
-planSection bytes = answered (planSectionNumber bytes) (planOf (stagesFrom (getD bytes 0 0) (drop 1 bytes)))
+planSection bytes = readingOf (planSectionNumber bytes) (planOf (stagesFrom (getD bytes 0 0) (drop 1 bytes)))
 
 -- ---- the image head
 
@@ -54,7 +55,7 @@ rowsNumber bytes job =
 
 -- "The reader of a whole lent job judges in the program's order below, without 15 and 8, and 14 last."
 unfoldable pub jobNumber : List ℕ → ℕ
-jobNumber bytes = firstOf (planSectionNumber bytes ∷ headSectionNumber bytes (headAt (getD bytes 0 0)) ∷ rowsNumber bytes (jobFrom bytes) ∷ [])
+jobNumber bytes = firstOf (planSectionNumber bytes ∷ headSectionNumber bytes (headBegins (getD bytes 0 0)) ∷ rowsNumber bytes (jobFrom bytes) ∷ [])
 
 -- all zeros, kind erosion
 abbrev pub noJob : Job

@@ -58,11 +58,11 @@ abbrev pub lowHigh : ℕ → ℕ → ℕ
 lowHigh low high = low + high * 256
 
 -- the places of the image head and of the rows of a job of that stage count
-abbrev pub headAt : ℕ → ℕ
-headAt count = 1 + count * 5
+abbrev pub headBegins : ℕ → ℕ
+headBegins count = 1 + count * 5
 
-abbrev pub rowsAt : ℕ → ℕ
-rowsAt count = headAt count + 5
+abbrev pub pixelsBegin : ℕ → ℕ
+pixelsBegin count = headBegins count + 5
 
 abbrev pub widthFrom : List ℕ → ℕ
 widthFrom head = lowHigh (getD head 1 0) (getD head 2 0)
@@ -75,10 +75,10 @@ unfoldable pub jobFrom : List ℕ → Job
 jobFrom bytes =
     record {
       plan = planOf (stagesFrom (getD bytes 0 0) (drop 1 bytes));
-      sample = getD (drop (headAt (getD bytes 0 0)) bytes) 0 0;
-      width = widthFrom (drop (headAt (getD bytes 0 0)) bytes);
-      rows = rowsFrom (drop (headAt (getD bytes 0 0)) bytes);
-      at = rowsAt (getD bytes 0 0);
+      sample = getD (drop (headBegins (getD bytes 0 0)) bytes) 0 0;
+      width = widthFrom (drop (headBegins (getD bytes 0 0)) bytes);
+      rows = rowsFrom (drop (headBegins (getD bytes 0 0)) bytes);
+      at = pixelsBegin (getD bytes 0 0);
     }
 
 -- ---- which bytes are a job
@@ -92,7 +92,7 @@ pub record Valid (job : Job) : Type 0 where
   pub width : job .width ≤ 4096
   pub some-rows : 1 ≤ job .rows
   pub rows : job .rows ≤ 65535
-  pub at : job .at ≡ rowsAt (job .plan .count)
+  pub at : job .at ≡ pixelsBegin (job .plan .count)
 
 -- the bytes are this job: its sections, then its rows, and nothing more
 pub record IsJob (bytes : List ℕ) (job : Job) : Type 0 where

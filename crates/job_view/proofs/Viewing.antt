@@ -10,10 +10,10 @@ use lib.Dec.{leb, ltb}
 use lib.ListN.{length, take, drop}
 use lib.Seq.{slice, slice-empty, take-nil}
 use Rattle.morph.proofs.Lists.{split, neither}
-use Rattle.plan_record.proofs.Numbers.{given-zero}
+use Rattle.morph.proofs.Numbers.{given-zero}
 use Rattle.job_read.specs.declared.Job.{Job}
 use Rattle.job_read.specs.Layout.{sampleBytes, rowBytes}
-use Rattle.job_view.specs.View.{rowAt, thereTo, viewNumber, viewed}
+use Rattle.job_view.specs.View.{rowBegins, thereTo, viewNumber, viewed}
 
 -- ---- what fits
 
@@ -46,8 +46,8 @@ module _ (bytes : List ℕ) (job : Job) (j : ℕ) where
   there-sample h = simp (lt-leb (job .sample) 1 h)
 
   module _ (known : job .sample ≤ 1) where
-    short : length bytes < rowAt job j → false ≡ thereTo bytes job j
-    short h = simp (le-leb (job .sample) 1 known, lt-leb (rowAt job j) (length bytes) h)
+    short : length bytes < rowBegins job j → false ≡ thereTo bytes job j
+    short h = simp (le-leb (job .sample) 1 known, lt-leb (rowBegins job j) (length bytes) h)
 
     pub there-start : length bytes < job .at → false ≡ thereTo bytes job j
     there-start h = short (omega arith)
@@ -63,15 +63,15 @@ module _ (bytes : List ℕ) (job : Job) (j : ℕ) where
       pub there-exact : {r : Bool} → r ≡ leb (j * job .width * size) (length bytes - job .at) → r ≡ thereTo bytes job j
       there-exact {r} q =
           let a : j * job .width * size ≡ j * rowBytes job = ap (λ (k : ℕ). j * job .width * k) e ∙ mul-assoc j (job .width) (sampleBytes (job .sample)) in
-          let b : r ≡ leb (rowAt job j) (length bytes) = q ∙ leb-shift (j * job .width * size) (job .at) (length bytes) inside ∙ ap (λ (x : ℕ). leb (job .at + x) (length bytes)) a in
+          let b : r ≡ leb (rowBegins job j) (length bytes) = q ∙ leb-shift (j * job .width * size) (job .at) (length bytes) inside ∙ ap (λ (x : ℕ). leb (job .at + x) (length bytes)) a in
           simp (le-leb (job .sample) 1 known) b
 
 -- ---- the part
 
 pub record There (bytes : List ℕ) (job : Job) (i j : ℕ) : Type 0 where
   pub order : i < j
-  pub end : rowAt job j ≤ length bytes
-  pub start : rowAt job i ≤ rowAt job j
+  pub end : rowBegins job j ≤ length bytes
+  pub start : rowBegins job i ≤ rowBegins job j
   pub row : rowBytes job ≤ length bytes
 
 known-part : (a b : Bool) → not (a && b) ≡ false → (a ≡ true) × (b ≡ true)
@@ -87,8 +87,8 @@ there bytes job i j z n =
     let q = neither (ltb j i) (ltb (job .rows) j) (p .0) in
     let o : i < j = omega (arith, ltb-false j i (q .0), n) in
     let t : not (thereTo bytes job j) ≡ false = rw (lt-ltb i j o) at (p .1) in
-    let k = known-part (leb (job .sample) 1) (leb (rowAt job j) (length bytes)) t in
-    let e = leb-true (rowAt job j) (length bytes) (k .1) in
+    let k = known-part (leb (job .sample) 1) (leb (rowBegins job j) (length bytes)) t in
+    let e = leb-true (rowBegins job j) (length bytes) (k .1) in
     let s = mul-le-mul-right {m = i} {n = j} (rowBytes job) (omega arith) in
     let r = mul-le-mul-right {m = 1} {n = j} (rowBytes job) (omega arith) in
     record { order = o; end = e; start = omega arith; row = omega arith }
@@ -124,8 +124,8 @@ module _ (bytes : List ℕ) (job : Job) (i j : ℕ) {n : ℕ} (e : n ≡ viewNum
     unfolding viewed
     view-none q =
         simp (eq-eqb (viewNumber bytes job i j) 0 (sym e ∙ z))
-        (sym (ap (λ (k : ℕ). slice (rowAt job k) (rowAt job j) bytes) q ∙ slice-empty (rowAt job j) bytes))
+        (sym (ap (λ (k : ℕ). slice (rowBegins job k) (rowBegins job j) bytes) q ∙ slice-empty (rowBegins job j) bytes))
 
-    pub view-part : {a b : ℕ} → a ≡ rowAt job i → b ≡ rowAt job j → take (b - a) (drop a bytes) ≡ viewed bytes job i j
+    pub view-part : {a b : ℕ} → a ≡ rowBegins job i → b ≡ rowBegins job j → take (b - a) (drop a bytes) ≡ viewed bytes job i j
     unfolding viewed
-    view-part p q = simp (eq-eqb (viewNumber bytes job i j) 0 (sym e ∙ z), p, q) (sym (slice-part (rowAt job i) (rowAt job j) bytes))
+    view-part p q = simp (eq-eqb (viewNumber bytes job i j) 0 (sym e ∙ z), p, q) (sym (slice-part (rowBegins job i) (rowBegins job j) bytes))

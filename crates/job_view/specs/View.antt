@@ -5,17 +5,17 @@ use Prim.Native.Nat.{ℕ, _+_, _*_}
 use lib.Dec.{eqb, ltb, leb}
 use lib.ListN.{length}
 use lib.Seq.{slice}
-use Rattle.plan_record.specs.Numbers.{given}
+use Rattle.morph.specs.Numbers.{given}
 use Rattle.job_read.specs.declared.Job.{Job}
 use Rattle.job_read.specs.Layout.{rowBytes}
 
 -- row i begins here
-abbrev pub rowAt : Job → ℕ → ℕ
-rowAt job i = job .at + i * rowBytes job
+abbrev pub rowBegins : Job → ℕ → ℕ
+rowBegins job i = job .at + i * rowBytes job
 
 -- The rows before j are there: the record's samples are of a kind that has a size, and "rows not wholly in the lent bytes are not there".
 abbrev pub thereTo : List ℕ → Job → ℕ → Bool
-thereTo bytes job j = leb (job .sample) 1 && leb (rowAt job j) (length bytes)
+thereTo bytes job j = leb (job .sample) 1 && leb (rowBegins job j) (length bytes)
 
 -- "i = j shows an empty part; i over j or j over the row count is refused 11."
 unfoldable pub viewNumber : List ℕ → Job → ℕ → ℕ → ℕ
@@ -23,4 +23,4 @@ viewNumber bytes job i j = given 11 (ltb j i || ltb (job .rows) j || (ltb i j &&
 
 -- "Rows i up to, not including, j of a read job are shown as that part of the caller's own bytes ..; empty at 11"
 unfoldable pub viewed : List ℕ → Job → ℕ → ℕ → List ℕ
-viewed bytes job i j = cond (eqb (viewNumber bytes job i j) 0) (slice (rowAt job i) (rowAt job j) bytes) []
+viewed bytes job i j = cond (eqb (viewNumber bytes job i j) 0) (slice (rowBegins job i) (rowBegins job j) bytes) []

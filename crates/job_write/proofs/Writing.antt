@@ -9,14 +9,15 @@ use borrow.Author.Tests.{lt-ltb, le-ltb, eq-eqb, ne-eqb}
 use lib.Dec.{ltb}
 use lib.ListN.{length, getD, take, drop, set, length-append}
 use lib.Seq.{sets, take-suc, length-take-le, sets-eq}
+use Rattle.morph.specs.Numbers.{given, firstOf}
+use Rattle.morph.proofs.Numbers.{skip, found}
 use Rattle.plan_record.specs.declared.Stage.{Stage}
-use Rattle.plan_record.specs.Numbers.{given, firstOf, sampleNumber, sizeNumber}
+use Rattle.plan_record.specs.Numbers.{sampleNumber, sizeNumber}
 use Rattle.plan_record.specs.Plan.{used, recordNumber}
 use Rattle.job_read.specs.declared.Job.{Job}
 use Rattle.job_write.specs.declared.Written.the-variants.{Bytes, Refused}
-use Rattle.job_read.specs.Layout.{stageBytes, stagesBytes, planBytes, headBytes, encode, headAt, rowsAt}
-use Rattle.job_write.specs.Write.{writeNumber, answerOf, Wrote}
-use Rattle.job_read.proofs.Sections.{skip, found}
+use Rattle.job_read.specs.Layout.{stageBytes, stagesBytes, planBytes, headBytes, encode, headBegins, pixelsBegin}
+use Rattle.job_write.specs.Write.{writeNumber, writtenOf, Wrote}
 
 -- ---- stores
 
@@ -57,30 +58,30 @@ stages-next out₀ ss i at d {out} {out′} h p e f =
 
 -- ---- the whole output
 
-pub length-encode : (job : Job) → job .plan .count ≤ length (job .plan .stages) → length (encode job) ≡ rowsAt (job .plan .count)
+pub length-encode : (job : Job) → job .plan .count ≤ length (job .plan .stages) → length (encode job) ≡ pixelsBegin (job .plan .count)
 unfolding encode
 length-encode job h =
     let u : length (used (job .plan)) ≡ job .plan .count = length-take-le (job .plan .count) (job .plan .stages) h in
     length-append (planBytes (job .plan)) (headBytes (job .sample) (job .width) (job .rows)) ∙ omega (arith, length-stages (used (job .plan)))
 
-pub written : (job : Job) (out : List ℕ) {one two three : List ℕ} → job .plan .count ≤ length (job .plan .stages) → rowsAt (job .plan .count) ≤ length out
-    → one ≡ set out 0 (job .plan .count) → two ≡ sets one 1 (stagesBytes (used (job .plan))) → three ≡ sets two (headAt (job .plan .count)) (headBytes (job .sample) (job .width) (job .rows))
-    → three ≡ encode job ++ drop (rowsAt (job .plan .count)) out
+pub written : (job : Job) (out : List ℕ) {one two three : List ℕ} → job .plan .count ≤ length (job .plan .stages) → pixelsBegin (job .plan .count) ≤ length out
+    → one ≡ set out 0 (job .plan .count) → two ≡ sets one 1 (stagesBytes (used (job .plan))) → three ≡ sets two (headBegins (job .plan .count)) (headBytes (job .sample) (job .width) (job .rows))
+    → three ≡ encode job ++ drop (pixelsBegin (job .plan .count)) out
 unfolding encode
 written job out h k e f g =
     let plan = job .plan in
     let head = headBytes (job .sample) (job .width) (job .rows) in
     let u : length (used plan) ≡ plan .count = length-take-le (plan .count) (plan .stages) h in
-    let p : headAt (plan .count) ≡ 0 + length (planBytes plan) = omega (arith, length-stages (used plan)) in
+    let p : headBegins (plan .count) ≡ 0 + length (planBytes plan) = omega (arith, length-stages (used plan)) in
     let l = length-encode job h in
-    let q : 0 + length (encode job) ≡ rowsAt (plan .count) = omega arith in
-    g ∙ ap (λ o. sets o (headAt (plan .count)) head) (f ∙ ap (λ o. sets o 1 (stagesBytes (used plan))) e)
+    let q : 0 + length (encode job) ≡ pixelsBegin (plan .count) = omega arith in
+    g ∙ ap (λ o. sets o (headBegins (plan .count)) head) (f ∙ ap (λ o. sets o 1 (stagesBytes (used plan))) e)
     ∙ ap (λ (n : ℕ). sets (sets out 0 (planBytes plan)) n head) p ∙ sets-append out 0 (planBytes plan) head
     ∙ sets-eq (encode job) out 0 (omega arith) ∙ ap (λ (n : ℕ). encode job ++ drop n out) q
 
 module _ (job : Job) (out : List ℕ) where
   abbrev room : ℕ
-  room = given 6 (ltb (length out) (rowsAt (job .plan .count)))
+  room = given 6 (ltb (length out) (pixelsBegin (job .plan .count)))
 
   abbrev size : ℕ
   size = sizeNumber (job .width) (job .rows)
@@ -106,16 +107,16 @@ module _ (job : Job) (out : List ℕ) where
       write-size e h = after-sample (found size (room ∷ []) e h)
 
       module _ (fits : size ≡ 0) where
-        pub write-short : length out < rowsAt (job .plan .count) → 6 ≡ writeNumber job out
-        write-short h = after-sample (skip size (room ∷ []) fits (found room [] (simp (lt-ltb (length out) (rowsAt (job .plan .count)) h)) (λ z. omega arith)))
+        pub write-short : length out < pixelsBegin (job .plan .count) → 6 ≡ writeNumber job out
+        write-short h = after-sample (skip size (room ∷ []) fits (found room [] (simp (lt-ltb (length out) (pixelsBegin (job .plan .count)) h)) (λ z. omega arith)))
 
-        pub write-fine : rowsAt (job .plan .count) ≤ length out → 0 ≡ writeNumber job out
-        write-fine h = after-sample (skip size (room ∷ []) fits (skip room [] (simp (le-ltb (length out) (rowsAt (job .plan .count)) h)) refl))
+        pub write-fine : pixelsBegin (job .plan .count) ≤ length out → 0 ≡ writeNumber job out
+        write-fine h = after-sample (skip size (room ∷ []) fits (skip room [] (simp (le-ltb (length out) (pixelsBegin (job .plan .count)) h)) refl))
 
   wrote-suc : (n : ℕ) → suc n ≡ writeNumber job out → Wrote job out out (Refused (suc n))
   wrote-suc n e =
       record {
-        answer = ap (λ (k : ℕ). answerOf k (rowsAt (job .plan .count))) e;
+        answer = ap (λ (k : ℕ). writtenOf k (pixelsBegin (job .plan .count))) e;
         number = e;
         output = simp (ne-eqb (writeNumber job out) 0 (λ z. omega arith));
       }
@@ -127,10 +128,10 @@ module _ (job : Job) (out : List ℕ) where
   pub wrote-refused : {n : ℕ} → n ≡ writeNumber job out → (n ≡ 0 → ⊥) → Wrote job out out (Refused n)
   wrote-refused {n} e h = wrote-number n e h
 
-  pub wrote : {out′ : List ℕ} → 0 ≡ writeNumber job out → out′ ≡ encode job ++ drop (rowsAt (job .plan .count)) out → Wrote job out out′ (Bytes (rowsAt (job .plan .count)))
+  pub wrote : {out′ : List ℕ} → 0 ≡ writeNumber job out → out′ ≡ encode job ++ drop (pixelsBegin (job .plan .count)) out → Wrote job out out′ (Bytes (pixelsBegin (job .plan .count)))
   wrote e f =
       record {
-        answer = ap (λ (k : ℕ). answerOf k (rowsAt (job .plan .count))) e;
+        answer = ap (λ (k : ℕ). writtenOf k (pixelsBegin (job .plan .count))) e;
         number = e;
         output = f ∙ simp (eq-eqb (writeNumber job out) 0 (sym e));
       }

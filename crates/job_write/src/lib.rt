@@ -6,7 +6,7 @@ ghost use Prim.Native.Nat.{_+_, _≤_, _<_};
 ghost use lib.ListN.{length};
 ghost use lib.Seq.{sets};
 ghost use Rattle.plan_record.specs.Plan.{used};
-ghost use Rattle.job_read.specs.Layout.{kindByte, stageBytes, stagesBytes, headBytes, headAt};
+ghost use Rattle.job_read.specs.Layout.{kindByte, stageBytes, stagesBytes, headBytes, headBegins};
 ghost use Rattle.job_write.specs.Write.{Wrote};
 use job_read::Job;
 use morph::Kind;
@@ -65,7 +65,7 @@ fn write_stage(stage: Stage, out: &mut [u8], at: usize)
 
 // The plan's stages, after the count's byte.
 fn write_stages(plan: Plan, out: &mut [u8])
-    requires { ⌜ (plan .count ≤ 16) × (headAt (plan .count) ≤ length (now out)) ⌝ }
+    requires { ⌜ (plan .count ≤ 16) × (headBegins (plan .count) ≤ length (now out)) ⌝ }
     ensures { λ _. ⌜ now (out .exit) ≡ sets (now (out .entry)) 1 (stagesBytes (used plan)) ⌝ }
 {
     let count = plan.count;

@@ -12,7 +12,7 @@ use lib.ListN.{length, getD, length-map, length-drop, length-take}
 use lib.Seq.{slice}
 use lib.Ieee.{Float}
 use lib.Ieee.Scale.{finite}
-use Rattle.morph.specs.Order.{Order, aheadOf}
+use Rattle.morph.specs.Order.{Order, aheadOf, kindOf}
 use Rattle.morph.specs.Rate.{plusZero}
 use Rattle.morph.specs.Lists.{tabulate, Each, In}
 use Rattle.morph.specs.Line.{Entry, outputAt, bestAt, filterLine, queue, lineCost, lineCosts}
@@ -22,9 +22,8 @@ use Rattle.sample.specs.Samples.{Samples, rates}
 use Rattle.sample.specs.Rate.{accepted}
 use Rattle.sample.proofs.Floats.{accepted-plus}
 use Rattle.queue.proofs.Laws.{listed-none}
-use Rattle.line_judge.specs.Numbers.{kindOf}
-use Rattle.line_judge.specs.Steps.{State, Said, pixel, notYet, refused, sayAt, firstState, Start, Broken, ReadNumber, DrainNumber, Queue, LeftBy, saidOver, Accepts}
-use Rattle.line.specs.Runs.{Run, started, offered, drained, offer-refused, drain-refused, pixelOf, comparisonsOf, pixelsOf, together, order, back, ahead, window, taken, saidAt, Ran}
+use Rattle.line_judge.specs.Steps.{State, PixelSaid, pixel, notYet, refused, sayAt, firstLine, LineStart, Broken, ReadNumber, DrainNumber, Queue, LeftBy, pixelSaidOver, Accepts}
+use Rattle.line.specs.Runs.{LineRun, started, offered, drained, offer-refused, drain-refused, pixelOf, pixelComparisons, pixelsOf, together, order, back, ahead, lineWindow, takenLine, pixelSaidAt, LineRan}
 use Rattle.line_judge.proofs.Numbers.{sound-broken, broken-sound, start-zero, read-zero, sound-read, sound-drain}
 use Rattle.line_judge.proofs.Steps.{SoundState}
 
@@ -36,13 +35,13 @@ getD-map f (a ∷ l) zero d e h = refl
 getD-map f (a ∷ l) (suc i) d e h = getD-map f l i d e (omega arith)
 
 module _ {A : Type 0} where
-  pixels-more : (said : List (Said A)) (a : Said A) → pixelsOf (said ++ (a ∷ [])) ≡ pixelsOf said ++ pixelsOf (a ∷ [])
+  pixels-more : (said : List (PixelSaid A)) (a : PixelSaid A) → pixelsOf (said ++ (a ∷ [])) ≡ pixelsOf said ++ pixelsOf (a ∷ [])
   pixels-more [] a = refl
   pixels-more (pixel v n c ∷ said) a = ap (λ l. v ∷ l) (pixels-more said a)
   pixels-more (notYet c ∷ said) a = pixels-more said a
   pixels-more (refused n p ∷ said) a = pixels-more said a
 
-  together-more : (said : List (Said A)) (a : Said A) → together (said ++ (a ∷ [])) ≡ together said + comparisonsOf a
+  together-more : (said : List (PixelSaid A)) (a : PixelSaid A) → together (said ++ (a ∷ [])) ≡ together said + pixelComparisons a
   together-more [] a = omega arith
   together-more (b ∷ said) a = omega (arith, together-more said a)
 
@@ -60,8 +59,8 @@ module _ {A : Type 0} (K : Samples A) (kind left right : ℕ) (raw : List A) whe
   abbrev Good : Type 0
   Good = Each (λ a. K .good a ≡ true) raw
 
-  abbrev R : State A → List (Said A) → Type 0
-  R = Run K kind left right raw
+  abbrev R : State A → List (PixelSaid A) → Type 0
+  R = LineRun K kind left right raw
 
   abbrev N : ℕ
   N = length raw
@@ -70,16 +69,16 @@ module _ {A : Type 0} (K : Samples A) (kind left right : ℕ) (raw : List A) whe
   F = ahead K kind left right raw
 
   abbrev xs : List A
-  xs = taken K kind left right raw
+  xs = takenLine K kind left right raw
 
   abbrev queueAt : ℕ → List (Entry A)
-  queueAt t = queue (order K kind left right raw) (window K kind left right raw) xs t
+  queueAt t = queue (order K kind left right raw) (lineWindow K kind left right raw) xs t
 
-  abbrev says : ℕ → Said A
-  says = saidAt K kind left right raw
+  abbrev says : ℕ → PixelSaid A
+  says = pixelSaidAt K kind left right raw
 
   -- what holds after each call
-  record Going (s : State A) (said : List (Said A)) : Type 0 where
+  record Going (s : State A) (said : List (PixelSaid A)) : Type 0 where
     kind-is : s .kind ≡ kindOf kind
     left-is : s .left ≡ left
     right-is : s .right ≡ right
@@ -91,7 +90,7 @@ module _ {A : Type 0} (K : Samples A) (kind left right : ℕ) (raw : List A) whe
   long : length xs ≡ N
   long = length-map raw (K .taken)
 
-  module _ (s : State A) (said : List (Said A)) (h : Going s said) where
+  module _ (s : State A) (said : List (PixelSaid A)) (h : Going s said) where
     left-by : Good → LeftBy K s xs
     left-by g = record {
       long = long ∙ sym (h .pixels-is);
@@ -99,10 +98,10 @@ module _ {A : Type 0} (K : Samples A) (kind left right : ℕ) (raw : List A) whe
       queued = rw (h .kind-is, h .left-is, h .right-is) (h .queued g);
     }
 
-    said-over : saidOver K s xs ≡ says (s .step)
+    said-over : pixelSaidOver K s xs ≡ says (s .step)
     said-over = rw (h .kind-is, h .left-is, h .right-is)
 
-    moved : (a : Said A) (s′ : State A) (next : List A → Type 0) → Accepts K s a s′ next → (Good → next xs) → Going s′ (said ++ (a ∷ []))
+    moved : (a : PixelSaid A) (s′ : State A) (next : List A → Type 0) → Accepts K s a s′ next → (Good → next xs) → Going s′ (said ++ (a ∷ []))
     moved a s′ next k n =
         let c : s′ .step ≡ suc (s .step) = k .counted ∙ add-one (s .step) in
         record {
@@ -125,8 +124,8 @@ module _ {A : Type 0} (K : Samples A) (kind left right : ℕ) (raw : List A) whe
     sound-state : SoundState K s
     sound-state = sound-broken (s .kind) (s .left) (s .right) (s .pixels) (s .step) (s .start) (s .count) (h .sound)
 
-  first : (s : State A) → Start K kind left right N 0 s → Going s []
-  unfolding firstState
+  first : (s : State A) → LineStart K kind left right N 0 s → Going s []
+  unfolding firstLine
   first s h =
       let z = sym (h .told) in
       let f = start-zero kind left right N z in
@@ -137,11 +136,11 @@ module _ {A : Type 0} (K : Samples A) (kind left right : ℕ) (raw : List A) whe
         right-is = refl;
         pixels-is = refl;
         sound = broken-sound (kindOf kind) left right N 0 0 0 f;
-        queued = λ g. listed-none (K .order .blank) 63 _ _ 0 ∙ sym (queue-start (order K kind left right raw) (window K kind left right raw) xs 0 refl);
+        queued = λ g. listed-none (K .order .blank) 63 _ _ 0 ∙ sym (queue-start (order K kind left right raw) (lineWindow K kind left right raw) xs 0 refl);
         told = λ g. refl;
       })
 
-  going : {s : State A} {said : List (Said A)} → R s said → Going s said
+  going : {s : State A} {said : List (PixelSaid A)} → R s said → Going s said
   going (started {s} h) = first s h
   going (offered {s} {s′} {a} {said} r z h) =
       let i = going r in
@@ -172,26 +171,26 @@ module _ {A : Type 0} (K : Samples A) (kind left right : ℕ) (raw : List A) whe
       let e′ : n - F ≡ 0 = omega (arith, leb-false F n p) in
       rw (tabulate-snoc n says, pixels-more (tabulate n says) (says n), p, e, append-nil, i, e′))
 
-  cost-told : (t : ℕ) → comparisonsOf (says t) ≡ lineCost (order K kind left right raw) (window K kind left right raw) xs t
+  cost-told : (t : ℕ) → pixelComparisons (says t) ≡ lineCost (order K kind left right raw) (lineWindow K kind left right raw) xs t
   unfolding sayAt
   cost-told t = split (leb F t) (λ p. rw p) (λ p. rw p)
 
-  costs-told : (n : ℕ) → together (tabulate n says) ≡ lineCosts (order K kind left right raw) (window K kind left right raw) xs n
+  costs-told : (n : ℕ) → together (tabulate n says) ≡ lineCosts (order K kind left right raw) (lineWindow K kind left right raw) xs n
   costs-told zero = refl
-  costs-told (suc n) = ap together (tabulate-snoc n says) ∙ together-more (tabulate n says) (says n) ∙ ap (λ k. k + comparisonsOf (says n)) (costs-told n) ∙ ap (λ k. lineCosts (order K kind left right raw) (window K kind left right raw) xs n + k) (cost-told n)
+  costs-told (suc n) = ap together (tabulate-snoc n says) ∙ together-more (tabulate n says) (says n) ∙ ap (λ k. k + pixelComparisons (says n)) (costs-told n) ∙ ap (λ k. lineCosts (order K kind left right raw) (lineWindow K kind left right raw) xs n + k) (cost-told n)
 
-  module _ (s : State A) (said : List (Said A)) (r : R s said) where
+  module _ (s : State A) (said : List (PixelSaid A)) (r : R s said) where
     step-bound : s .step ≤ N + F
     step-bound = let i = going r in rw (i .kind-is, i .left-is, i .right-is, i .pixels-is) at (sound-state s said i .step-fits)
 
     -- the theorem of a run: over pixels that are accepted ones, any run is the line's
-    pub run-line : Good → Ran K kind left right raw s said
+    pub run-line : Good → LineRan K kind left right raw s said
     unfolding filterLine
     run-line g =
         let i = going r in
         let O = order K kind left right raw in
         let b = step-bound in
-        let w = window K kind left right raw in
+        let w = lineWindow K kind left right raw in
         let t : together said ≡ lineCosts O w xs (s .step) = ap together (i .told g) ∙ costs-told (s .step) in
         let m : min (s .step - F) (length xs) ≡ s .step - F = omega (arith, long) in
         let best-at = bestAt O (back K kind left right raw) F xs in
@@ -230,7 +229,7 @@ module _ {A : Type 0} (K : Samples A) (kind left right : ℕ) (raw : List A) whe
 -- ---- floats
 
 -- "accepted pixels are finite. A negative zero is read as positive zero, so output never holds a negative zero."
-pub rate-output : (kind left right : ℕ) (raw : List Float) (s : State Float) (said : List (Said Float)) → Run rates kind left right raw s said → Each (λ a. finite a ≡ true) raw
+pub rate-output : (kind left right : ℕ) (raw : List Float) (s : State Float) (said : List (PixelSaid Float)) → LineRun rates kind left right raw s said → Each (λ a. finite a ≡ true) raw
     → (v : Float) → In v (pixelsOf said) → accepted v ≡ true
 rate-output kind left right raw s said r g v i =
     in-each (λ u. accepted u ≡ true) (map plusZero raw) v (each-map _ plusZero raw (each-weaken _ _ raw accepted-plus g)) (run-line rates kind left right raw s said r g .member v i)

@@ -3,21 +3,21 @@
 use mathlib.Core.Path.{_≡_, refl, sym, ap, _∙_}
 use mathlib.Core.Bool.{false}
 use mathlib.Core.Logic.{_≢_}
-use mathlib.Core.List.{List, [], _∷_}
-use Prim.Native.Nat.{ℕ, zero, suc, _+_, _-_}
+use mathlib.Core.List.{List}
+use Prim.Native.Nat.{ℕ, _+_, _-_}
 use native.Mathlib.Omega.{arith}
 use borrow.Author.Tests.{eqb-true, eqb-false}
 use lib.Dec.{eqb}
-use lib.ListN.{take, drop, getD, set, length-set}
+use lib.ListN.{length, take, drop, getD, set, length-set}
 use lib.Ieee.{Float}
 use lib.Seq.{take-set-le, getD-set-same}
 use Rattle.morph.specs.Order.{Order}
-use Rattle.morph.specs.Lists.{Each}
-use Rattle.morph.specs.Line.{positioned, standing, queue}
-use Rattle.morph.proofs.Lists.{split}
+use Rattle.morph.specs.Line.{positioned, standing, queue, Entry, Shown}
+use Rattle.morph.proofs.Lists.{split, each-set}
+use Rattle.morph.proofs.Ring.{entries-length}
 use Rattle.sample.specs.Samples.{Samples}
-use Rattle.line_judge.specs.Numbers.{startNumber, readNumber, drainNumber}
-use Rattle.line_judge.specs.Steps.{State, Said, pixel, notYet, refused, Shown, entry, notShown, Start, Broken, ReadNumber, DrainNumber, O, L, LeftBy, Accepts, Answers, Reads, Drains, shownAt, Same}
+use Rattle.line_judge.specs.Numbers.{lineStartNumber, lineReadNumber, lineDrainNumber, lineReadOutNumber}
+use Rattle.line_judge.specs.Steps.{State, PixelSaid, LineStart, Broken, ReadNumber, DrainNumber, O, L, LeftBy, Accepts, Answers, Reads, Drains, lineShown, SameLine}
 use Rattle.line_grey.specs.Grey as grey
 use Rattle.line_rate.specs.Rate as rate
 use Rattle.line_grey.specs.declared.Line.{Line}
@@ -32,26 +32,21 @@ use Rattle.line_rate.specs.declared.ReadOut.{ReadOut as RateReadOut}
 use Rattle.line_rate.specs.declared.ReadOut.the-variants.{Found as RateFound, Refused as RateNotFound}
 use Rattle.line_judge.proofs.Numbers.{read-zero}
 
-each-set : {A : Type 0} (P : A → Type 0) (l : List A) (i : ℕ) (a : A) → Each P l → P a → Each P (set l i a)
-each-set P [] i a h p = tt
-each-set P (b ∷ l) zero a h p = (p, h .1)
-each-set P (b ∷ l) (suc i) a h p = (h .0, each-set P l i a (h .1) p)
-
 -- the queue after s steps rests on the first s pixels
 pub queue-rests : {A : Type 0} (O : Order A) (w : ℕ) (xs ys : List A) (s : ℕ) → take s xs ≡ take s ys → queue O w xs s ≡ queue O w ys s
 unfolding queue
 queue-rests O w xs ys s e = ap (λ l. standing O (positioned (s - w) (drop (s - w) l))) e
 
 module _ {A : Type 0} (K : Samples A) where
-  pub start-unique : (kind left right pixels n n′ : ℕ) (s s′ : State A) → Start K kind left right pixels n s → Start K kind left right pixels n′ s′ → (n ≡ n′) × (s ≡ s′)
+  pub start-unique : (kind left right pixels n n′ : ℕ) (s s′ : State A) → LineStart K kind left right pixels n s → LineStart K kind left right pixels n′ s′ → (n ≡ n′) × (s ≡ s′)
   start-unique kind left right pixels n n′ s s′ h k = (
     h .told ∙ sym (k .told),
-    split (eqb (startNumber kind left right pixels) 0)
+    split (eqb (lineStartNumber kind left right pixels) 0)
         (λ z. h .begins (eqb-true _ 0 z) ∙ sym (k .begins (eqb-true _ 0 z)))
         (λ z. h .refuses (eqb-false _ 0 z) ∙ sym (k .refuses (eqb-false _ 0 z))),
   )
 
-  same-self : (s s′ : State A) → s ≡ s′ → Same K s s′
+  same-self : (s s′ : State A) → s ≡ s′ → SameLine K s s′
   same-self s s′ e = rw e (record { kind = refl; left = refl; right = refl; pixels = refl; step = refl; queued = refl })
 
   -- a line that could have left the state goes on with the pixel v
@@ -70,11 +65,11 @@ module _ {A : Type 0} (K : Samples A) where
 
   -- ---- accepted steps of two states that a caller cannot tell apart
 
-  module _ (s t : State A) (e : Same K s t) (a b : Said A) (s′ t′ : State A) where
+  module _ (s t : State A) (e : SameLine K s t) (a b : PixelSaid A) (s′ t′ : State A) where
     left-same : (xs : List A) → LeftBy K s xs → LeftBy K t xs
     left-same xs l = record { long = l .long ∙ e .pixels; good = l .good; queued = sym (e .queued) ∙ rw (e .kind, e .left, e .right, e .step) at (l .queued) }
 
-    accepted-same : (next next′ : List A → Type 0) → Accepts K s a s′ next → Accepts K t b t′ next′ → (xs : List A) → LeftBy K s xs → next xs → next′ xs → (a ≡ b) × Same K s′ t′
+    accepted-same : (next next′ : List A → Type 0) → Accepts K s a s′ next → Accepts K t b t′ next′ → (xs : List A) → LeftBy K s xs → next xs → next′ xs → (a ≡ b) × SameLine K s′ t′
     accepted-same next next′ h k xs l n m =
         let f = h .follows xs l n in
         let g = k .follows xs (left-same xs l) m in (
@@ -91,21 +86,30 @@ module _ {A : Type 0} (K : Samples A) where
 
     -- such states are refused alike, where neither breaks rule 12
     pub numbers-same : Broken K s ≡ false → Broken K t ≡ false → (v : A) → (ReadNumber K s v ≡ ReadNumber K t v) × (DrainNumber K s ≡ DrainNumber K t)
-    unfolding readNumber drainNumber
+    unfolding lineReadNumber lineDrainNumber
     numbers-same h k v = (rw (h, k, e .pixels, e .step), rw (h, k, e .kind, e .left, e .right, e .pixels, e .step))
 
     -- So neither where a queue starts nor what stands outside it is seen by a later step.
-    pub read-same : (v : A) → ReadNumber K s v ≡ 0 → ReadNumber K t v ≡ 0 → Reads K s a s′ v → Reads K t b t′ v → (xs : List A) → LeftBy K s xs → (a ≡ b) × Same K s′ t′
+    pub read-same : (v : A) → ReadNumber K s v ≡ 0 → ReadNumber K t v ≡ 0 → Reads K s a s′ v → Reads K t b t′ v → (xs : List A) → LeftBy K s xs → (a ≡ b) × SameLine K s′ t′
     read-same v z y h k xs l =
         let (ys, m, n) = goes-on s v xs l z in
         accepted-same _ _ (h .accepts z) (k .accepts y) ys m n (ap (λ j. getD ys j (K .order .blank)) (sym (e .step)) ∙ n)
 
-    pub drain-same : DrainNumber K s ≡ 0 → DrainNumber K t ≡ 0 → Drains K s a s′ → Drains K t b t′ → (xs : List A) → LeftBy K s xs → (a ≡ b) × Same K s′ t′
+    pub drain-same : DrainNumber K s ≡ 0 → DrainNumber K t ≡ 0 → Drains K s a s′ → Drains K t b t′ → (xs : List A) → LeftBy K s xs → (a ≡ b) × SameLine K s′ t′
     drain-same z y h k xs l = accepted-same _ _ (h .accepts z) (k .accepts y) xs l tt tt
+
+  -- nor by a read-out
+  pub read-out-same : (s t : State A) → SameLine K s t → Broken K s ≡ false → Broken K t ≡ false → (place : ℕ) → lineShown K s place ≡ lineShown K t place
+  unfolding lineShown lineReadOutNumber
+  read-out-same s t e h k place =
+      let c : s .count ≡ t .count =
+      sym (entries-length (K .order .blank) (length (s .values)) (s .start) (s .count) (s .values) (s .positions)) ∙ ap length (e .queued)
+      ∙ entries-length (K .order .blank) (length (t .values)) (t .start) (t .count) (t .values) (t .positions) in
+      rw (h, k, e .queued, c)
 
   -- ---- the promises of a step
 
-  module _ (s : State A) (a a′ : Said A) (s₁ s₂ : State A) where
+  module _ (s : State A) (a a′ : PixelSaid A) (s₁ s₂ : State A) where
     -- a refusal is exactly the same
     refused-same : (number : ℕ) (next : List A → Type 0) → Answers K s a s₁ number next → Answers K s a′ s₂ number next → number ≢ 0 → (a ≡ a′) × (s₁ ≡ s₂)
     refused-same number next h k z = (h .refuses z .says ∙ sym (k .refuses z .says), h .refuses z .kept ∙ sym (k .refuses z .kept))
@@ -116,20 +120,20 @@ module _ {A : Type 0} (K : Samples A) where
     pub drain-refusal-unique : Drains K s a s₁ → Drains K s a′ s₂ → DrainNumber K s ≢ 0 → (a ≡ a′) × (s₁ ≡ s₂)
     drain-refusal-unique = refused-same (DrainNumber K s) _
 
-    pub read-unique : (v : A) → Reads K s a s₁ v → Reads K s a′ s₂ v → (xs : List A) → LeftBy K s xs → (a ≡ a′) × Same K s₁ s₂
+    pub read-unique : (v : A) → Reads K s a s₁ v → Reads K s a′ s₂ v → (xs : List A) → LeftBy K s xs → (a ≡ a′) × SameLine K s₁ s₂
     read-unique v h k xs l =
         split (eqb (ReadNumber K s v) 0)
         (λ z. let y = eqb-true (ReadNumber K s v) 0 z in read-same s s (same-self s s refl) a a′ s₁ s₂ v y y h k xs l)
         (λ z. let (p, q) = read-refusal-unique v h k (eqb-false (ReadNumber K s v) 0 z) in (p, same-self s₁ s₂ q))
 
-    pub drain-unique : Drains K s a s₁ → Drains K s a′ s₂ → (xs : List A) → LeftBy K s xs → (a ≡ a′) × Same K s₁ s₂
+    pub drain-unique : Drains K s a s₁ → Drains K s a′ s₂ → (xs : List A) → LeftBy K s xs → (a ≡ a′) × SameLine K s₁ s₂
     drain-unique h k xs l =
         split (eqb (DrainNumber K s) 0)
         (λ z. let y = eqb-true (DrainNumber K s) 0 z in drain-same s s (same-self s s refl) a a′ s₁ s₂ y y h k xs l)
         (λ z. let (p, q) = drain-refusal-unique h k (eqb-false (DrainNumber K s) 0 z) in (p, same-self s₁ s₂ q))
 
 -- A read-out's promise is an equation, so that two outcomes that meet it are equal.
-pub read-out-unique : {A : Type 0} (K : Samples A) (s : State A) (place : ℕ) (r r′ : Shown A) → r ≡ shownAt K s place → r′ ≡ shownAt K s place → r ≡ r′
+pub read-out-unique : {A : Type 0} (K : Samples A) (s : State A) (place : ℕ) (r r′ : Shown A) → r ≡ lineShown K s place → r′ ≡ lineShown K s place → r ≡ r′
 read-out-unique K s place r r′ h k = h ∙ sym k
 
 -- ---- the declared types: a line is its state, and an answer is what it says
@@ -154,62 +158,50 @@ rateOf s = record {
   queue = record { values = s .values; positions = s .positions; start = s .start; count = s .count };
 }
 
-pub grey-line : (l m : Line) → grey.stateOf l ≡ grey.stateOf m → l ≡ m
+pub grey-line : (l m : Line) → grey.greyLine l ≡ grey.greyLine m → l ≡ m
 unfolding lineOf
 grey-line l m e = ap lineOf e
 
-pub rate-line : (l m : RateLine) → rate.stateOf l ≡ rate.stateOf m → l ≡ m
+pub rate-line : (l m : RateLine) → rate.rateLine l ≡ rate.rateLine m → l ≡ m
 unfolding rateOf
 rate-line l m e = ap rateOf e
 
-answerOf : Said ℕ → Answer
-answerOf (pixel value number comparisons) = Pixel value number comparisons
-answerOf (notYet comparisons) = NotYet comparisons
-answerOf (refused number position) = Refused number position
+-- one constructor says nothing that another says, and what it holds is told
 
-rateAnswerOf : Said Float → RateAnswer
-rateAnswerOf (pixel value number comparisons) = RatePixel value number comparisons
-rateAnswerOf (notYet comparisons) = RateNotYet comparisons
-rateAnswerOf (refused number position) = RateRefused number position
+pub grey-answer : (a b : Answer) → grey.greyPixel a ≡ grey.greyPixel b → a ≡ b
+grey-answer (Pixel v n c) (Pixel w m d) e = cc
+grey-answer (Pixel v n c) (NotYet d) e = cc
+grey-answer (Pixel v n c) (Refused m d) e = cc
+grey-answer (NotYet c) (Pixel w m d) e = cc
+grey-answer (NotYet c) (NotYet d) e = cc
+grey-answer (NotYet c) (Refused m d) e = cc
+grey-answer (Refused n c) (Pixel w m d) e = cc
+grey-answer (Refused n c) (NotYet d) e = cc
+grey-answer (Refused n c) (Refused m d) e = cc
 
-answer-back : (a : Answer) → answerOf (grey.saidOf a) ≡ a
-unfolding answerOf
-answer-back (Pixel value number comparisons) = refl
-answer-back (NotYet comparisons) = refl
-answer-back (Refused number position) = refl
+pub rate-answer : (a b : RateAnswer) → rate.ratePixel a ≡ rate.ratePixel b → a ≡ b
+rate-answer (RatePixel v n c) (RatePixel w m d) e = cc
+rate-answer (RatePixel v n c) (RateNotYet d) e = cc
+rate-answer (RatePixel v n c) (RateRefused m d) e = cc
+rate-answer (RateNotYet c) (RatePixel w m d) e = cc
+rate-answer (RateNotYet c) (RateNotYet d) e = cc
+rate-answer (RateNotYet c) (RateRefused m d) e = cc
+rate-answer (RateRefused n c) (RatePixel w m d) e = cc
+rate-answer (RateRefused n c) (RateNotYet d) e = cc
+rate-answer (RateRefused n c) (RateRefused m d) e = cc
 
-rate-back : (a : RateAnswer) → rateAnswerOf (rate.saidOf a) ≡ a
-unfolding rateAnswerOf
-rate-back (RatePixel value number comparisons) = refl
-rate-back (RateNotYet comparisons) = refl
-rate-back (RateRefused number position) = refl
+pub grey-read-out : (r r′ : ReadOut) → grey.greyLineShown r ≡ grey.greyLineShown r′ → r ≡ r′
+grey-read-out (Found e) (Found f) h =
+    let q : _≡_ {A = Entry ℕ} (record { value = e .value; position = e .position }) (record { value = f .value; position = f .position }) = cc in
+    ap (λ (x : Entry ℕ). Found (record { value = x .value; position = x .position })) q
+grey-read-out (Found e) (NotFound n) h = cc
+grey-read-out (NotFound n) (Found e) h = cc
+grey-read-out (NotFound n) (NotFound m) h = cc
 
-pub grey-answer : (a b : Answer) → grey.saidOf a ≡ grey.saidOf b → a ≡ b
-grey-answer a b e = sym (answer-back a) ∙ ap answerOf e ∙ answer-back b
-
-pub rate-answer : (a b : RateAnswer) → rate.saidOf a ≡ rate.saidOf b → a ≡ b
-rate-answer a b e = sym (rate-back a) ∙ ap rateAnswerOf e ∙ rate-back b
-
-shownBack : Shown ℕ → ReadOut
-shownBack (entry e) = Found (record { value = e .value; position = e .position })
-shownBack (notShown number) = NotFound number
-
-rateShownBack : Shown Float → RateReadOut
-rateShownBack (entry e) = RateFound (record { value = e .value; position = e .position })
-rateShownBack (notShown number) = RateNotFound number
-
-shown-back : (r : ReadOut) → shownBack (grey.shownOf r) ≡ r
-unfolding shownBack
-shown-back (Found e) = refl
-shown-back (NotFound number) = refl
-
-rate-shown-back : (r : RateReadOut) → rateShownBack (rate.shownOf r) ≡ r
-unfolding rateShownBack
-rate-shown-back (RateFound e) = refl
-rate-shown-back (RateNotFound number) = refl
-
-pub grey-read-out : (r r′ : ReadOut) → grey.shownOf r ≡ grey.shownOf r′ → r ≡ r′
-grey-read-out r r′ e = sym (shown-back r) ∙ ap shownBack e ∙ shown-back r′
-
-pub rate-read-out : (r r′ : RateReadOut) → rate.shownOf r ≡ rate.shownOf r′ → r ≡ r′
-rate-read-out r r′ e = sym (rate-shown-back r) ∙ ap rateShownBack e ∙ rate-shown-back r′
+pub rate-read-out : (r r′ : RateReadOut) → rate.rateLineShown r ≡ rate.rateLineShown r′ → r ≡ r′
+rate-read-out (RateFound e) (RateFound f) h =
+    let q : _≡_ {A = Entry Float} (record { value = e .value; position = e .position }) (record { value = f .value; position = f .position }) = cc in
+    ap (λ (x : Entry Float). RateFound (record { value = x .value; position = x .position })) q
+rate-read-out (RateFound e) (RateNotFound n) h = cc
+rate-read-out (RateNotFound n) (RateFound e) h = cc
+rate-read-out (RateNotFound n) (RateNotFound m) h = cc

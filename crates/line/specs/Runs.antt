@@ -5,45 +5,45 @@ use mathlib.Core.List.{List, [], _∷_, _++_, map}
 use mathlib.Core.Option.{Option, none, some}
 use Prim.Native.Nat.{ℕ, _+_, _-_, _*_, _≤_, _<_}
 use lib.ListN.{length, take, getD}
-use Rattle.morph.specs.Order.{Order, orderOf, backOf, aheadOf}
+use Rattle.morph.specs.Order.{Order, orderOf, backOf, aheadOf, kindOf}
 use Rattle.morph.specs.Lists.{tabulate, In}
 use Rattle.morph.specs.Line.{outputAt, bestAt, filterLine, queue, lineCost, lineCosts}
 use Rattle.sample.specs.Samples.{Samples}
-use Rattle.line_judge.specs.Numbers.{kindOf, windowOf}
-use Rattle.line_judge.specs.Steps.{State, Said, pixel, notYet, refused, sayAt, Start, ReadNumber, DrainNumber, Queue, Reads, Drains}
+use Rattle.line_judge.specs.Numbers.{windowOf}
+use Rattle.line_judge.specs.Steps.{State, PixelSaid, pixel, notYet, refused, sayAt, LineStart, ReadNumber, DrainNumber, Queue, Reads, Drains}
 
 -- A run over the pixels `raw` as they are offered: an accepted start; then, in any order that is accepted, the pixel that is next, and drains; and calls that are refused,
 -- of any pixel, in between. `said` are the answers of the accepted steps, the first first.
-pub data Run {A : Type 0} (K : Samples A) (kind left right : ℕ) (raw : List A) : State A → List (Said A) → Type 0 where
-  started : {s : State A} → Start K kind left right (length raw) 0 s → Run K kind left right raw s []
-  offered : {s s′ : State A} {a : Said A} {said : List (Said A)} → Run K kind left right raw s said → ReadNumber K s (getD raw (s .step) (K .order .blank)) ≡ 0
-      → Reads K s a s′ (getD raw (s .step) (K .order .blank)) → Run K kind left right raw s′ (said ++ (a ∷ []))
-  drained : {s s′ : State A} {a : Said A} {said : List (Said A)} → Run K kind left right raw s said → DrainNumber K s ≡ 0 → Drains K s a s′ → Run K kind left right raw s′ (said ++ (a ∷ []))
-  offer-refused : {s s′ : State A} {a : Said A} {said : List (Said A)} (v : A) → Run K kind left right raw s said → ReadNumber K s v ≢ 0 → Reads K s a s′ v → Run K kind left right raw s′ said
-  drain-refused : {s s′ : State A} {a : Said A} {said : List (Said A)} → Run K kind left right raw s said → DrainNumber K s ≢ 0 → Drains K s a s′ → Run K kind left right raw s′ said
+pub data LineRun {A : Type 0} (K : Samples A) (kind left right : ℕ) (raw : List A) : State A → List (PixelSaid A) → Type 0 where
+  started : {s : State A} → LineStart K kind left right (length raw) 0 s → LineRun K kind left right raw s []
+  offered : {s s′ : State A} {a : PixelSaid A} {said : List (PixelSaid A)} → LineRun K kind left right raw s said → ReadNumber K s (getD raw (s .step) (K .order .blank)) ≡ 0
+      → Reads K s a s′ (getD raw (s .step) (K .order .blank)) → LineRun K kind left right raw s′ (said ++ (a ∷ []))
+  drained : {s s′ : State A} {a : PixelSaid A} {said : List (PixelSaid A)} → LineRun K kind left right raw s said → DrainNumber K s ≡ 0 → Drains K s a s′ → LineRun K kind left right raw s′ (said ++ (a ∷ []))
+  offer-refused : {s s′ : State A} {a : PixelSaid A} {said : List (PixelSaid A)} (v : A) → LineRun K kind left right raw s said → ReadNumber K s v ≢ 0 → Reads K s a s′ v → LineRun K kind left right raw s′ said
+  drain-refused : {s s′ : State A} {a : PixelSaid A} {said : List (PixelSaid A)} → LineRun K kind left right raw s said → DrainNumber K s ≢ 0 → Drains K s a s′ → LineRun K kind left right raw s′ said
 
 module _ {A : Type 0} where
   -- the pixel of an answer, and its comparisons
-  abbrev pub pixelOf : Said A → Option A
+  abbrev pub pixelOf : PixelSaid A → Option A
   pixelOf (pixel value number comparisons) = some value
   pixelOf (notYet comparisons) = none
   pixelOf (refused number position) = none
 
-  abbrev pub comparisonsOf : Said A → ℕ
-  comparisonsOf (pixel value number comparisons) = comparisons
-  comparisonsOf (notYet comparisons) = comparisons
-  comparisonsOf (refused number position) = 0
+  abbrev pub pixelComparisons : PixelSaid A → ℕ
+  pixelComparisons (pixel value number comparisons) = comparisons
+  pixelComparisons (notYet comparisons) = comparisons
+  pixelComparisons (refused number position) = 0
 
   -- the pixels of a list of answers, in their order, and the comparisons together
-  abbrev pub pixelsOf : List (Said A) → List A
+  abbrev pub pixelsOf : List (PixelSaid A) → List A
   pixelsOf [] = []
   pixelsOf (pixel value number comparisons ∷ said) = value ∷ pixelsOf said
   pixelsOf (notYet comparisons ∷ said) = pixelsOf said
   pixelsOf (refused number position ∷ said) = pixelsOf said
 
-  abbrev pub together : List (Said A) → ℕ
+  abbrev pub together : List (PixelSaid A) → ℕ
   together [] = 0
-  together (a ∷ said) = comparisonsOf a + together said
+  together (a ∷ said) = pixelComparisons a + together said
 
 module _ {A : Type 0} (K : Samples A) (kind left right : ℕ) (raw : List A) where
   -- the line's order, B, F and L, and its pixels as they are taken
@@ -56,25 +56,25 @@ module _ {A : Type 0} (K : Samples A) (kind left right : ℕ) (raw : List A) whe
   abbrev pub ahead : ℕ
   ahead = aheadOf (kindOf kind) left right
 
-  abbrev pub window : ℕ
-  window = windowOf (kindOf kind) left right
+  abbrev pub lineWindow : ℕ
+  lineWindow = windowOf (kindOf kind) left right
 
-  abbrev pub taken : List A
-  taken = map (K .taken) raw
+  abbrev pub takenLine : List A
+  takenLine = map (K .taken) raw
 
   -- what step t says
-  abbrev pub saidAt : ℕ → Said A
-  saidAt t = sayAt ahead t (bestAt order back ahead taken (t - ahead)) (lineCost order window taken t)
+  abbrev pub pixelSaidAt : ℕ → PixelSaid A
+  pixelSaidAt t = sayAt ahead t (bestAt order back ahead takenLine (t - ahead)) (lineCost order lineWindow takenLine t)
 
   -- After some accepted steps, whatever was refused in between: they are counted; the queue is the line's; each answer is the line's, so that "output x comes at step
   -- x + F" and at no other; the pixels so far are the first of the filtered line; the comparisons are document 01's, and together "at most 2N - 2".
-  pub record Ran (s : State A) (said : List (Said A)) : Type 0 where
+  pub record LineRan (s : State A) (said : List (PixelSaid A)) : Type 0 where
     pub counted : length said ≡ s .step
     pub bounded : s .step ≤ length raw + ahead
-    pub queued : Queue K s ≡ queue order window taken (s .step)
-    pub says : said ≡ tabulate (s .step) saidAt
-    pub outputs : (t : ℕ) → t < s .step → pixelOf (getD said t (notYet 0)) ≡ outputAt (length raw) (bestAt order back ahead taken) ahead t
-    pub filtered : pixelsOf said ≡ take (s .step - ahead) (filterLine order back ahead taken)
-    pub costs : together said ≡ lineCosts order window taken (s .step)
+    pub queued : Queue K s ≡ queue order lineWindow takenLine (s .step)
+    pub says : said ≡ tabulate (s .step) pixelSaidAt
+    pub outputs : (t : ℕ) → t < s .step → pixelOf (getD said t (notYet 0)) ≡ outputAt (length raw) (bestAt order back ahead takenLine) ahead t
+    pub filtered : pixelsOf said ≡ take (s .step - ahead) (filterLine order back ahead takenLine)
+    pub costs : together said ≡ lineCosts order lineWindow takenLine (s .step)
     pub few : together said ≤ 2 * length raw - 2
-    pub member : (v : A) → In v (pixelsOf said) → In v taken
+    pub member : (v : A) → In v (pixelsOf said) → In v takenLine

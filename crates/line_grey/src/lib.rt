@@ -5,9 +5,9 @@ ghost use Prim.Native.Nat.{_+_, _≤_, _<_};
 ghost use lib.ListN.{length, getD};
 ghost use Rattle.morph.specs.Order.{aheadOf};
 ghost use Rattle.sample.specs.Samples.{greys};
-ghost use Rattle.line_judge.specs.Numbers.{Sound};
-ghost use Rattle.line_judge.specs.Steps.{sayAt, onward, Start, Refuses, Accepts, Reads, Drains, shownAt};
-ghost use Rattle.line_grey.specs.Grey.{stateOf, saidOf, shownOf};
+ghost use Rattle.line_judge.specs.Inner.{LineSound, onward};
+ghost use Rattle.line_judge.specs.Steps.{sayAt, LineStart, Refuses, Accepts, Reads, Drains, lineShown};
+ghost use Rattle.line_grey.specs.Grey.{greyLine, greyPixel, greyLineShown};
 use morph::Kind;
 use queue_grey::Entry;
 use row_grey::RowQueue;
@@ -58,7 +58,7 @@ pub enum ReadOut {
 
 // A line before its first step, or a refusal and a line that no step takes.
 pub fn start(kind: u8, left: u8, right: u8, pixels: usize) -> Started
-    ensures { λ r. ⌜ Start greys kind left right pixels (r .number) (stateOf (r .line)) ⌝ }
+    ensures { λ r. ⌜ LineStart greys kind left right pixels (r .number) (greyLine (r .line)) ⌝ }
 {
     let number = line_judge::start(kind, left, right, pixels);
     let q = row_grey::empty();
@@ -90,7 +90,7 @@ pub fn start(kind: u8, left: u8, right: u8, pixels: usize) -> Started
 
 // A refusal: the line as it was given.
 fn refusal(line: Line, number: u8) -> Stepped
-    ensures { λ r. ⌜ Refuses greys (stateOf line) (saidOf (r .answer)) (stateOf (r .line)) number ⌝ }
+    ensures { λ r. ⌜ Refuses greys (greyLine line) (greyPixel (r .answer)) (greyLine (r .line)) number ⌝ }
 {
     Stepped {
         answer: Answer::Refused {
@@ -104,13 +104,12 @@ fn refusal(line: Line, number: u8) -> Stepped
 // The line one step on, with the queue that the step left. Its oldest value is the answer, once the window has come so far.
 fn step_on(line: Line, q: RowQueue, comparisons: usize) -> Stepped
     requires { ⌜ (q .start < 63) × (line .step < 65566) ⌝ }
-    ensures { λ r. ⌜ (stateOf (r .line) ≡ onward greys (stateOf line) (q .values) (q .positions) (q .start) (q .count)) × (saidOf (r .answer) ≡ sayAt (aheadOf (line .kind) (line .left) (line .right)) (line .step) (getD (q .values) (q .start) (greys .order .blank)) comparisons) × (length (q .values) ≡ 63) ⌝ }
+    ensures { λ r. ⌜ (greyLine (r .line) ≡ onward greys (greyLine line) (q .values) (q .positions) (q .start) (q .count)) × (greyPixel (r .answer) ≡ sayAt (aheadOf (line .kind) (line .left) (line .right)) (line .step) (getD (q .values) (q .start) (greys .order .blank)) comparisons) × (length (q .values) ≡ 63) ⌝ }
 {
     let kind = line.kind;
     let t = line.step;
     let ahead = line_judge::ahead(kind, line.left, line.right);
-    let first = q.start;
-    let front = queue_grey::cell(&q.values, &q.positions, first);
+    let front = row_grey::front(q);
     let next = Line {
         kind: kind,
         left: line.left,
@@ -139,41 +138,26 @@ fn step_on(line: Line, q: RowQueue, comparisons: usize) -> Stepped
 
 // An accepted step that reads v.
 fn read_on(line: Line, v: u8) -> Stepped
-    requires { ⌜ Sound (line .kind) (line .left) (line .right) (line .pixels) (line .step) (line .queue .start) (line .queue .count) × (line .step < line .pixels) ⌝ }
-    ensures { λ r. ⌜ Accepts greys (stateOf line) (saidOf (r .answer)) (stateOf (r .line)) (λ xs. getD xs (line .step) (greys .order .blank) ≡ v) ⌝ }
+    requires { ⌜ LineSound (line .kind) (line .left) (line .right) (line .pixels) (line .step) (line .queue .start) (line .queue .count) × (line .step < line .pixels) ⌝ }
+    ensures { λ r. ⌜ Accepts greys (greyLine line) (greyPixel (r .answer)) (greyLine (r .line)) (λ xs. getD xs (line .step) (greys .order .blank) ≡ v) ⌝ }
 {
     let kind = line.kind;
     let t = line.step;
-    let mut q = line.queue;
-    let start = q.start;
-    let count = q.count;
+    let q = line.queue;
     let window = line_judge::window(kind, line.left, line.right);
     let e = Entry {
         value: v,
         position: row::position(t),
     };
-    let behind = queue::slot(start, count, 63);
-    let r = queue_grey::room(
-        kind,
-        window,
-        &q.values,
-        &q.positions,
-        start,
-        count,
-        behind,
-        e,
-    );
-    let at = r.at;
-    q.values[at] = e.value;
-    q.positions[at] = e.position;
-    q.start = r.start;
-    q.count = r.count + 1;
-    step_on(line, q, r.comparisons)
+    let pushed = row_grey::push(q, kind, window, e);
+    let next = pushed.queue;
+    let r = pushed.room;
+    step_on(line, next, r.comparisons)
 }
 
 // A step that reads: the pixel v is offered.
 pub fn read(line: Line, v: u8) -> Stepped
-    ensures { λ r. ⌜ Reads greys (stateOf line) (saidOf (r .answer)) (stateOf (r .line)) v ⌝ }
+    ensures { λ r. ⌜ Reads greys (greyLine line) (greyPixel (r .answer)) (greyLine (r .line)) v ⌝ }
 {
     let kind = line.kind;
     let q = line.queue;
@@ -195,8 +179,8 @@ pub fn read(line: Line, v: u8) -> Stepped
 
 // An accepted step that drains.
 fn drain_on(line: Line) -> Stepped
-    requires { ⌜ Sound (line .kind) (line .left) (line .right) (line .pixels) (line .step) (line .queue .start) (line .queue .count) × (line .pixels ≤ line .step) × (line .step < line .pixels + aheadOf (line .kind) (line .left) (line .right)) ⌝ }
-    ensures { λ r. ⌜ Accepts greys (stateOf line) (saidOf (r .answer)) (stateOf (r .line)) (λ xs. Unit {0}) ⌝ }
+    requires { ⌜ LineSound (line .kind) (line .left) (line .right) (line .pixels) (line .step) (line .queue .start) (line .queue .count) × (line .pixels ≤ line .step) × (line .step < line .pixels + aheadOf (line .kind) (line .left) (line .right)) ⌝ }
+    ensures { λ r. ⌜ Accepts greys (greyLine line) (greyPixel (r .answer)) (greyLine (r .line)) (λ xs. Unit {0}) ⌝ }
 {
     let kind = line.kind;
     let t = line.step;
@@ -212,7 +196,7 @@ fn drain_on(line: Line) -> Stepped
 
 // A step that drains: a drain is asked.
 pub fn drain(line: Line) -> Stepped
-    ensures { λ r. ⌜ Drains greys (stateOf line) (saidOf (r .answer)) (stateOf (r .line)) ⌝ }
+    ensures { λ r. ⌜ Drains greys (greyLine line) (greyPixel (r .answer)) (greyLine (r .line)) ⌝ }
 {
     let kind = line.kind;
     let q = line.queue;
@@ -233,7 +217,7 @@ pub fn drain(line: Line) -> Stepped
 
 // The entry of a queue place, the oldest at place 0.
 pub fn read_out(line: Line, place: usize) -> ReadOut
-    ensures { λ r. ⌜ shownOf r ≡ shownAt greys (stateOf line) place ⌝ }
+    ensures { λ r. ⌜ greyLineShown r ≡ lineShown greys (greyLine line) place ⌝ }
 {
     let kind = line.kind;
     let q = line.queue;

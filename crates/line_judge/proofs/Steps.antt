@@ -11,22 +11,25 @@ use lib.Dec.{leb}
 use lib.ListN.{length, getD, set, replicate, length-set}
 use Rattle.morph.specs.declared.Kind.{Kind}
 use Rattle.morph.specs.declared.Kind.the-variants.{Erosion}
-use Rattle.morph.specs.Line.{queue, lineCost}
+use Rattle.morph.specs.Line.{queue, lineCost, found, refused}
 use Rattle.morph.specs.Ring.{wrap}
 use Rattle.morph.proofs.Lists.{split}
 use Rattle.morph.proofs.Line.{cost-drain}
+use Rattle.morph.specs.Order.{kindOf}
 use Rattle.sample.specs.Samples.{Samples}
-use Rattle.queue.specs.Queue.{listed, Roomed, goesOf}
+use Rattle.queue.specs.Queue.{listed}
+use Rattle.queue.specs.Inner.{goesOf, Roomed}
 use Rattle.queue.specs.declared.Room.{Room}
 use Rattle.queue.proofs.Laws.{listed-at}
 use Rattle.row.proofs.Row.{queue-next, queue-drained, front-answer}
-use Rattle.line_judge.specs.Numbers.{Sound, kindOf, startNumber, readNumber}
-use Rattle.line_judge.specs.Steps.{State, Said, entry, notShown, sayAt, Broken, ReadNumber, ReadOutNumber, O, B, F, L, LeftBy, saidOver, onward, Refuses, Accepts, Answers, shownAt, firstState, Start}
+use Rattle.line_judge.specs.Numbers.{lineStartNumber, lineReadNumber}
+use Rattle.line_judge.specs.Inner.{LineSound, onward}
+use Rattle.line_judge.specs.Steps.{State, PixelSaid, sayAt, Broken, ReadNumber, ReadOutNumber, O, B, F, L, LeftBy, pixelSaidOver, Refuses, Accepts, Answers, lineShown, firstLine, LineStart}
 use Rattle.line_judge.proofs.Numbers.{broken-sound}
 
 module _ {A : Type 0} (K : Samples A) (s : State A) where
   abbrev pub SoundState : Type 0
-  SoundState = Sound (s .kind) (s .left) (s .right) (s .pixels) (s .step) (s .start) (s .count)
+  SoundState = LineSound (s .kind) (s .left) (s .right) (s .pixels) (s .step) (s .start) (s .count)
 
   module _ (h : SoundState) (d : s .step < s .pixels + F K s) (vs : List A) (ps : List ℕ) (start count c : ℕ) (b : start < 63) (f : count ≤ L K s) (l : length vs ≡ 63) where
     -- the state one step on is sound
@@ -46,7 +49,7 @@ module _ {A : Type 0} (K : Samples A) (s : State A) where
 
     -- the oldest value is the line's answer
     says-line : (xs : List A) → length xs ≡ s .pixels → listed K vs ps start count ≡ queue (O K s) (L K s) xs (suc (s .step)) → c ≡ lineCost (O K s) (L K s) xs (s .step)
-        → sayAt (F K s) (s .step) (getD vs start (K .order .blank)) c ≡ saidOver K s xs
+        → sayAt (F K s) (s .step) (getD vs start (K .order .blank)) c ≡ pixelSaidOver K s xs
     unfolding sayAt
     says-line xs n q e =
         split (leb (F K s) (s .step))
@@ -73,7 +76,7 @@ module _ {A : Type 0} (K : Samples A) (s : State A) where
 
   -- a step that reads v, as it is taken, from what the code finds on the way
   pub read-accepts : SoundState → s .step < s .pixels → length (s .values) ≡ 63 → length (s .positions) ≡ 63 → (v : A) (r : Room) (w p : ℕ) → w ≡ L K s → p ≡ s .step
-      → Roomed K (s .kind) w (s .step) v (s .values) (s .positions) (s .start) (s .count) r → (a : Said A) (s′ : State A)
+      → Roomed K (s .kind) w (s .step) v (s .values) (s .positions) (s .start) (s .count) r → (a : PixelSaid A) (s′ : State A)
       → a ≡ sayAt (F K s) (s .step) (getD (set (s .values) (r .at) v) (r .start) (K .order .blank)) (r .comparisons)
       → s′ ≡ onward K s (set (s .values) (r .at) v) (set (s .positions) (r .at) p) (r .start) (r .count + 1) → Accepts K s a s′ (λ xs. getD xs (s .step) (K .order .blank) ≡ v)
   read-accepts h d l m v r w p i j g a s′ e f =
@@ -86,7 +89,7 @@ module _ {A : Type 0} (K : Samples A) (s : State A) where
 
   -- a step that drains
   pub drain-accepts : SoundState → s .pixels ≤ s .step → s .step < s .pixels + F K s → length (s .values) ≡ 63 → (w gone next : ℕ) → w ≡ L K s
-      → gone ≡ goesOf w (s .step) (s .count) (getD (s .positions) (s .start) 0) → next ≡ wrap 63 (s .start + gone) → next < 63 → (a : Said A) (s′ : State A)
+      → gone ≡ goesOf w (s .step) (s .count) (getD (s .positions) (s .start) 0) → next ≡ wrap 63 (s .start + gone) → next < 63 → (a : PixelSaid A) (s′ : State A)
       → a ≡ sayAt (F K s) (s .step) (getD (s .values) next (K .order .blank)) 0 → s′ ≡ onward K s (s .values) (s .positions) next (s .count - gone) → Accepts K s a s′ (λ xs. Unit {0})
   drain-accepts h p d l w gone next i j n b a s′ e f =
       let k : L K s ≤ length (s .values) = omega (arith, h .back-fits, h .ahead-fits) in
@@ -101,15 +104,15 @@ module _ {A : Type 0} (K : Samples A) (s : State A) where
       )))
 
   -- a pixel that was tested and taken as K says is the pixel of the promise
-  pub good-number : (v : A) (n : ℕ) (g : Bool) → g ≡ K .good v → n ≡ readNumber (s .kind) (s .left) (s .right) (s .pixels) (s .step) (s .start) (s .count) g → n ≡ ReadNumber K s v
+  pub good-number : (v : A) (n : ℕ) (g : Bool) → g ≡ K .good v → n ≡ lineReadNumber (s .kind) (s .left) (s .right) (s .pixels) (s .step) (s .start) (s .count) g → n ≡ ReadNumber K s v
   good-number v n g e h = rw (← e) h
 
-  pub taken-accepts : (a : Said A) (s′ : State A) (v w : A) → w ≡ K .taken v → Accepts K s a s′ (λ xs. getD xs (s .step) (K .order .blank) ≡ w)
+  pub taken-accepts : (a : PixelSaid A) (s′ : State A) (v w : A) → w ≡ K .taken v → Accepts K s a s′ (λ xs. getD xs (s .step) (K .order .blank) ≡ w)
       → Accepts K s a s′ (λ xs. getD xs (s .step) (K .order .blank) ≡ K .taken v)
   taken-accepts a s′ v w e h = rw (← e) h
 
   -- a call's promise, from the number that was found
-  module _ (a : Said A) (s′ : State A) (n number : ℕ) (next : List A → Type 0) (e : n ≡ number) where
+  module _ (a : PixelSaid A) (s′ : State A) (n number : ℕ) (next : List A → Type 0) (e : n ≡ number) where
     pub answers-refusal : n ≢ 0 → Refuses K s a s′ n → Answers K s a s′ number next
     answers-refusal h r = rw (← e) (record { refuses = λ _. r; accepts = λ z. absurd (h z) })
 
@@ -117,26 +120,26 @@ module _ {A : Type 0} (K : Samples A) (s : State A) where
     answers-step z r = rw (← e) (record { refuses = λ h. absurd (h z); accepts = λ _. r })
 
   -- a read-out
-  pub shown-refused : (place number : ℕ) → number ≡ ReadOutNumber K s place → number ≢ 0 → notShown number ≡ shownAt K s place
-  unfolding shownAt
+  pub shown-refused : (place number : ℕ) → number ≡ ReadOutNumber K s place → number ≢ 0 → refused number ≡ lineShown K s place
+  unfolding lineShown
   shown-refused place number e h = rw (← e, ne-eqb number 0 h)
 
   pub shown-entry : (place at : ℕ) → ReadOutNumber K s place ≡ 0 → length (s .values) ≡ 63 → place < s .count → at ≡ wrap 63 (s .start + place)
-      → entry (record { value = getD (s .values) at (K .order .blank); position = getD (s .positions) at 0 }) ≡ shownAt K s place
-  unfolding shownAt
+      → found (record { value = getD (s .values) at (K .order .blank); position = getD (s .positions) at 0 }) ≡ lineShown K s place
+  unfolding lineShown
   shown-entry place at z l p e =
       let e′ : wrap (length (s .values)) (s .start + place) ≡ at = rw l (sym e) in
       rw (z, listed-at (K .order .blank) (length (s .values)) (s .values) (s .positions) (s .start) (s .count) place at (record { value = K .order .blank; position = 0 }) p e′)
 
 -- ---- the start, from the empty queue
 
-module _ {A : Type 0} (K : Samples A) (kind left right pixels number : ℕ) (vs : List A) (ps : List ℕ) (start count : ℕ) (v : vs ≡ replicate 63 (K .zero)) (p : ps ≡ replicate 63 0) (s : start ≡ 0) (c : count ≡ 0) (e : number ≡ startNumber kind left right pixels) where
+module _ {A : Type 0} (K : Samples A) (kind left right pixels number : ℕ) (vs : List A) (ps : List ℕ) (start count : ℕ) (v : vs ≡ replicate 63 (K .zero)) (p : ps ≡ replicate 63 0) (s : start ≡ 0) (c : count ≡ 0) (e : number ≡ lineStartNumber kind left right pixels) where
   pub start-refused : number ≢ 0
-      → Start K kind left right pixels number (record { kind = Erosion; left = 0; right = 0; pixels = 0; step = 0; values = vs; positions = ps; start = start; count = count })
-  unfolding firstState
+      → LineStart K kind left right pixels number (record { kind = Erosion; left = 0; right = 0; pixels = 0; step = 0; values = vs; positions = ps; start = start; count = count })
+  unfolding firstLine
   start-refused h = record { told = e; refuses = λ _. rw (v, p, s, c); begins = λ z. absurd (h (e ∙ z)) }
 
   pub start-begun : number ≡ 0 → (k : Kind) → k ≡ kindOf kind
-      → Start K kind left right pixels 0 (record { kind = k; left = left; right = right; pixels = pixels; step = 0; values = vs; positions = ps; start = start; count = count })
-  unfolding firstState
+      → LineStart K kind left right pixels 0 (record { kind = k; left = left; right = right; pixels = pixels; step = 0; values = vs; positions = ps; start = start; count = count })
+  unfolding firstLine
   start-begun z k i = record { told = sym z ∙ e; refuses = λ h. absurd (h (sym e ∙ z)); begins = λ _. rw (v, p, s, c, i) }

@@ -7,12 +7,12 @@ use Prim.Native.Nat.{ℕ, _+_, _-_}
 use lib.Dec.{leb, eqb}
 use lib.ListN.{length, getD, replicate}
 use Rattle.morph.specs.declared.Kind.{Kind}
-use Rattle.morph.specs.Order.{Order, orderOf, backOf, aheadOf}
+use Rattle.morph.specs.Order.{Order, orderOf, backOf, aheadOf, kindOf}
 use Rattle.morph.specs.Lists.{Each}
-use Rattle.morph.specs.Line.{Entry, bestAt, queue, lineCost}
+use Rattle.morph.specs.Line.{Entry, bestAt, queue, lineCost, Shown, found, refused as notShown}
 use Rattle.sample.specs.Samples.{Samples}
 use Rattle.queue.specs.Queue.{listed}
-use Rattle.line_judge.specs.Numbers.{kindOf, windowOf, startNumber, broken, readNumber, drainNumber, readOutNumber, placeOf}
+use Rattle.line_judge.specs.Numbers.{windowOf, lineStartNumber, broken, lineReadNumber, lineDrainNumber, lineReadOutNumber, placeOf}
 
 -- ---- the state, and what a call says
 
@@ -30,26 +30,21 @@ pub record State (A : Type 0) : Type 0 where
 
 -- "A step answers with an enum: a row with its number and the comparisons made, not yet with the comparisons made, or a refusal." Here the row is a pixel;
 -- a refusal has document 01's number and the position that 8 names.
-pub data Said (A : Type 0) : Type 0 where
-  pixel : A → ℕ → ℕ → Said A
-  notYet : ℕ → Said A
-  refused : ℕ → ℕ → Said A
-
--- a read-out shows an entry, or is refused
-pub data Shown (A : Type 0) : Type 0 where
-  entry : Entry A → Shown A
-  notShown : ℕ → Shown A
+pub data PixelSaid (A : Type 0) : Type 0 where
+  pixel : A → ℕ → ℕ → PixelSaid A
+  notYet : ℕ → PixelSaid A
+  refused : ℕ → ℕ → PixelSaid A
 
 -- "Output x comes at step x + F": at step t the value is told as pixel t - F, once t has come so far
-unfoldable pub sayAt : {A : Type 0} → ℕ → ℕ → A → ℕ → Said A
+unfoldable pub sayAt : {A : Type 0} → ℕ → ℕ → A → ℕ → PixelSaid A
 sayAt ahead t value comparisons = cond (leb ahead t) (pixel value (t - ahead) comparisons) (notYet comparisons)
 
 -- ---- the start
 
 module _ {A : Type 0} (K : Samples A) where
   -- a line before its first step: nothing queued
-  unfoldable pub firstState : ℕ → ℕ → ℕ → ℕ → State A
-  firstState kind left right pixels = record {
+  unfoldable pub firstLine : ℕ → ℕ → ℕ → ℕ → State A
+  firstLine kind left right pixels = record {
     kind = kindOf kind;
     left = left;
     right = right;
@@ -62,10 +57,10 @@ module _ {A : Type 0} (K : Samples A) where
   }
 
   -- "a refused start .. hands back all zeros, kind erosion"
-  pub record Start (kind left right pixels number : ℕ) (s : State A) : Type 0 where
-    pub told : number ≡ startNumber kind left right pixels
-    pub refuses : startNumber kind left right pixels ≢ 0 → s ≡ firstState 0 0 0 0
-    pub begins : startNumber kind left right pixels ≡ 0 → s ≡ firstState kind left right pixels
+  pub record LineStart (kind left right pixels number : ℕ) (s : State A) : Type 0 where
+    pub told : number ≡ lineStartNumber kind left right pixels
+    pub refuses : lineStartNumber kind left right pixels ≢ 0 → s ≡ firstLine 0 0 0 0
+    pub begins : lineStartNumber kind left right pixels ≡ 0 → s ≡ firstLine kind left right pixels
 
 -- ---- the steps
 
@@ -74,13 +69,13 @@ module _ {A : Type 0} (K : Samples A) (s : State A) where
   Broken = broken (s .kind) (s .left) (s .right) (s .pixels) (s .step) (s .start) (s .count)
 
   abbrev pub ReadNumber : A → ℕ
-  ReadNumber v = readNumber (s .kind) (s .left) (s .right) (s .pixels) (s .step) (s .start) (s .count) (K .good v)
+  ReadNumber v = lineReadNumber (s .kind) (s .left) (s .right) (s .pixels) (s .step) (s .start) (s .count) (K .good v)
 
   abbrev pub DrainNumber : ℕ
-  DrainNumber = drainNumber (s .kind) (s .left) (s .right) (s .pixels) (s .step) (s .start) (s .count)
+  DrainNumber = lineDrainNumber (s .kind) (s .left) (s .right) (s .pixels) (s .step) (s .start) (s .count)
 
   abbrev pub ReadOutNumber : ℕ → ℕ
-  ReadOutNumber place = readOutNumber (s .kind) (s .left) (s .right) (s .pixels) (s .step) (s .start) (s .count) place
+  ReadOutNumber place = lineReadOutNumber (s .kind) (s .left) (s .right) (s .pixels) (s .step) (s .start) (s .count) place
 
   -- the queue, oldest first
   abbrev pub Queue : List (Entry A)
@@ -106,24 +101,10 @@ module _ {A : Type 0} (K : Samples A) (s : State A) where
     pub queued : Queue ≡ queue O L xs (s .step)
 
   -- what step t over the line xs says: "Output x comes at step x + F", with document 01's comparisons
-  abbrev pub saidOver : List A → Said A
-  saidOver xs = sayAt F (s .step) (bestAt O B F xs (s .step - F)) (lineCost O L xs (s .step))
+  abbrev pub pixelSaidOver : List A → PixelSaid A
+  pixelSaidOver xs = sayAt F (s .step) (bestAt O B F xs (s .step - F)) (lineCost O L xs (s .step))
 
-  -- the state one step on, with this queue
-  unfoldable pub onward : List A → List ℕ → ℕ → ℕ → State A
-  onward values positions start count = record {
-    kind = s .kind;
-    left = s .left;
-    right = s .right;
-    pixels = s .pixels;
-    step = s .step + 1;
-    values = values;
-    positions = positions;
-    start = start;
-    count = count;
-  }
-
-module _ {A : Type 0} (K : Samples A) (s : State A) (a : Said A) (s′ : State A) where
+module _ {A : Type 0} (K : Samples A) (s : State A) (a : PixelSaid A) (s′ : State A) where
   -- "Every refusal returns its number (8 its column too) and the state as given"
   pub record Refuses (number : ℕ) : Type 0 where
     pub says : a ≡ refused number (placeOf number (s .step))
@@ -132,7 +113,7 @@ module _ {A : Type 0} (K : Samples A) (s : State A) (a : Said A) (s′ : State A
   -- a step over the line xs: the queue is that of one step more, and the answer is the line's
   pub record Follows (xs : List A) : Type 0 where
     pub queued : Queue K s′ ≡ queue (O K s) (L K s) xs (s .step + 1)
-    pub says : a ≡ saidOver K s xs
+    pub says : a ≡ pixelSaidOver K s xs
 
   -- An accepted step. Whatever the queue held, the step is counted, the rest stays and is sound, and the answer has the case and the number that are due.
   -- Over every line that could have left the state, and of which `next` says that this is its next step, the queue and the answer are the line's.
@@ -165,16 +146,16 @@ module _ {A : Type 0} (K : Samples A) (s : State A) (a : Said A) (s′ : State A
 
 module _ {A : Type 0} (K : Samples A) (s : State A) where
   -- the entry of a queue place, the oldest at place 0
-  unfoldable pub shownAt : ℕ → Shown A
-  shownAt place =
+  unfoldable pub lineShown : ℕ → Shown A
+  lineShown place =
       cond (eqb (ReadOutNumber K s place) 0)
-      (entry (getD (Queue K s) place (record { value = K .order .blank; position = 0 })))
+      (found (getD (Queue K s) place (record { value = K .order .blank; position = 0 })))
       (notShown (ReadOutNumber K s place))
 
 -- ---- two states that a caller cannot tell apart
 
 -- Equal but for where the queue starts in its ring and for the cells outside it, which document 01 excepts.
-pub record Same {A : Type 0} (K : Samples A) (s s′ : State A) : Type 0 where
+pub record SameLine {A : Type 0} (K : Samples A) (s s′ : State A) : Type 0 where
   pub kind : s .kind ≡ s′ .kind
   pub left : s .left ≡ s′ .left
   pub right : s .right ≡ s′ .right

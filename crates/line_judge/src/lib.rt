@@ -1,9 +1,11 @@
 // Which calls of a line are refused, on plain numbers: grey bytes and floats share it.
 
 ghost use mathlib.Core.Path.{_≡_};
+ghost use mathlib.Core.List.{[], _∷_};
 ghost use Prim.Native.Nat.{_<_};
-ghost use Rattle.morph.specs.Order.{backOf, aheadOf};
-ghost use Rattle.line_judge.specs.Numbers.{kindOf, windowOf, extentOver, pixelsOff, startNumber, broken, readNumber, drainNumber, readOutNumber, placeOf};
+ghost use Rattle.morph.specs.Order.{backOf, aheadOf, kindOf};
+ghost use Rattle.morph.specs.Numbers.{extentOver, outside};
+ghost use Rattle.line_judge.specs.Numbers.{windowOf, lineStartNumber, broken, lineReadNumber, lineDrainNumber, lineReadOutNumber, placeOf};
 use morph::Kind;
 
 // ---- the window
@@ -49,7 +51,7 @@ pub fn window(kind: Kind, left: u8, right: u8) -> usize
 // ---- the tests
 
 fn extent_over(left: u8, right: u8) -> bool
-    ensures { λ r. ⌜ r ≡ extentOver left right ⌝ }
+    ensures { λ r. ⌜ r ≡ extentOver (left ∷ right ∷ []) ⌝ }
 {
     if 31 < left {
         return true;
@@ -58,7 +60,7 @@ fn extent_over(left: u8, right: u8) -> bool
 }
 
 fn pixels_off(pixels: usize) -> bool
-    ensures { λ r. ⌜ r ≡ pixelsOff pixels ⌝ }
+    ensures { λ r. ⌜ r ≡ outside 65535 pixels ⌝ }
 {
     if pixels == 0 {
         return true;
@@ -68,7 +70,7 @@ fn pixels_off(pixels: usize) -> bool
 
 // The number of a start, 0 where it is accepted.
 pub fn start(kind: u8, left: u8, right: u8, pixels: usize) -> u8
-    ensures { λ r. ⌜ r ≡ startNumber kind left right pixels ⌝ }
+    ensures { λ r. ⌜ r ≡ lineStartNumber kind left right pixels ⌝ }
 {
     if 1 < kind {
         return 2;
@@ -120,7 +122,7 @@ pub fn read(
     count: usize,
     good: bool,
 ) -> u8
-    ensures { λ r. ⌜ r ≡ readNumber kind left right pixels step start count good ⌝ }
+    ensures { λ r. ⌜ r ≡ lineReadNumber kind left right pixels step start count good ⌝ }
 {
     if broken(kind, left, right, pixels, step, start, count) {
         return 12;
@@ -141,7 +143,7 @@ pub fn drain(
     start: usize,
     count: usize,
 ) -> u8
-    ensures { λ r. ⌜ r ≡ drainNumber kind left right pixels step start count ⌝ }
+    ensures { λ r. ⌜ r ≡ lineDrainNumber kind left right pixels step start count ⌝ }
 {
     if broken(kind, left, right, pixels, step, start, count) {
         return 12;
@@ -166,7 +168,7 @@ pub fn read_out(
     count: usize,
     place: usize,
 ) -> u8
-    ensures { λ r. ⌜ r ≡ readOutNumber kind left right pixels step start count place ⌝ }
+    ensures { λ r. ⌜ r ≡ lineReadOutNumber kind left right pixels step start count place ⌝ }
 {
     if broken(kind, left, right, pixels, step, start, count) {
         return 12;

@@ -1,14 +1,15 @@
 -- Lines of floats: the state of a declared line, and document 01's number and values for each case of its answers.
 use lib.Ieee.{Float}
-use Rattle.line_judge.specs.Steps.{State, Said, pixel, notYet, refused, Shown, entry, notShown}
+use Rattle.line_judge.specs.Steps.{State, PixelSaid, pixel, notYet, refused}
+use Rattle.morph.specs.Line.{Shown, found, refused as notShown}
 use Rattle.line_rate.specs.declared.Line.{Line}
 use Rattle.line_rate.specs.declared.Answer.{Answer}
 use Rattle.line_rate.specs.declared.Answer.the-variants.{Pixel, NotYet, Refused}
 use Rattle.line_rate.specs.declared.ReadOut.{ReadOut}
 use Rattle.line_rate.specs.declared.ReadOut.the-variants.{Found, Refused as NotShown}
 
-abbrev pub stateOf : Line → State Float
-stateOf l = record {
+abbrev pub rateLine : Line → State Float
+rateLine l = record {
   kind = l .kind;
   left = l .left;
   right = l .right;
@@ -20,11 +21,11 @@ stateOf l = record {
   count = l .queue .count;
 }
 
-abbrev pub saidOf : Answer → Said Float
-saidOf (Pixel value number comparisons) = pixel value number comparisons
-saidOf (NotYet comparisons) = notYet comparisons
-saidOf (Refused number position) = refused number position
+abbrev pub ratePixel : Answer → PixelSaid Float
+ratePixel (Pixel value number comparisons) = pixel value number comparisons
+ratePixel (NotYet comparisons) = notYet comparisons
+ratePixel (Refused number position) = refused number position
 
-abbrev pub shownOf : ReadOut → Shown Float
-shownOf (Found e) = entry (record { value = e .value; position = e .position })
-shownOf (NotShown number) = notShown number
+abbrev pub rateLineShown : ReadOut → Shown Float
+rateLineShown (Found e) = found (record { value = e .value; position = e .position })
+rateLineShown (NotShown number) = notShown number

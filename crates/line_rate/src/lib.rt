@@ -5,9 +5,9 @@ ghost use Prim.Native.Nat.{_+_, _≤_, _<_};
 ghost use lib.ListN.{length, getD};
 ghost use Rattle.morph.specs.Order.{aheadOf};
 ghost use Rattle.sample.specs.Samples.{rates};
-ghost use Rattle.line_judge.specs.Numbers.{Sound};
-ghost use Rattle.line_judge.specs.Steps.{sayAt, onward, Start, Refuses, Accepts, Reads, Drains, shownAt};
-ghost use Rattle.line_rate.specs.Rate.{stateOf, saidOf, shownOf};
+ghost use Rattle.line_judge.specs.Inner.{LineSound, onward};
+ghost use Rattle.line_judge.specs.Steps.{sayAt, LineStart, Refuses, Accepts, Reads, Drains, lineShown};
+ghost use Rattle.line_rate.specs.Rate.{rateLine, ratePixel, rateLineShown};
 use morph::Kind;
 use queue_rate::Entry;
 use row_rate::RowQueue;
@@ -58,7 +58,7 @@ pub enum ReadOut {
 
 // A line before its first step, or a refusal and a line that no step takes.
 pub fn start(kind: u8, left: u8, right: u8, pixels: usize) -> Started
-    ensures { λ r. ⌜ Start rates kind left right pixels (r .number) (stateOf (r .line)) ⌝ }
+    ensures { λ r. ⌜ LineStart rates kind left right pixels (r .number) (rateLine (r .line)) ⌝ }
 {
     let number = line_judge::start(kind, left, right, pixels);
     let q = row_rate::empty();
@@ -90,7 +90,7 @@ pub fn start(kind: u8, left: u8, right: u8, pixels: usize) -> Started
 
 // A refusal: the line as it was given.
 fn refusal(line: Line, number: u8) -> Stepped
-    ensures { λ r. ⌜ Refuses rates (stateOf line) (saidOf (r .answer)) (stateOf (r .line)) number ⌝ }
+    ensures { λ r. ⌜ Refuses rates (rateLine line) (ratePixel (r .answer)) (rateLine (r .line)) number ⌝ }
 {
     Stepped {
         answer: Answer::Refused {
@@ -104,13 +104,12 @@ fn refusal(line: Line, number: u8) -> Stepped
 // The line one step on, with the queue that the step left. Its oldest value is the answer, once the window has come so far.
 fn step_on(line: Line, q: RowQueue, comparisons: usize) -> Stepped
     requires { ⌜ (q .start < 63) × (line .step < 65566) ⌝ }
-    ensures { λ r. ⌜ (stateOf (r .line) ≡ onward rates (stateOf line) (q .values) (q .positions) (q .start) (q .count)) × (saidOf (r .answer) ≡ sayAt (aheadOf (line .kind) (line .left) (line .right)) (line .step) (getD (q .values) (q .start) (rates .order .blank)) comparisons) × (length (q .values) ≡ 63) ⌝ }
+    ensures { λ r. ⌜ (rateLine (r .line) ≡ onward rates (rateLine line) (q .values) (q .positions) (q .start) (q .count)) × (ratePixel (r .answer) ≡ sayAt (aheadOf (line .kind) (line .left) (line .right)) (line .step) (getD (q .values) (q .start) (rates .order .blank)) comparisons) × (length (q .values) ≡ 63) ⌝ }
 {
     let kind = line.kind;
     let t = line.step;
     let ahead = line_judge::ahead(kind, line.left, line.right);
-    let first = q.start;
-    let front = queue_rate::cell(&q.values, &q.positions, first);
+    let front = row_rate::front(q);
     let next = Line {
         kind: kind,
         left: line.left,
@@ -139,41 +138,26 @@ fn step_on(line: Line, q: RowQueue, comparisons: usize) -> Stepped
 
 // An accepted step that reads v.
 fn read_on(line: Line, v: f32) -> Stepped
-    requires { ⌜ Sound (line .kind) (line .left) (line .right) (line .pixels) (line .step) (line .queue .start) (line .queue .count) × (line .step < line .pixels) ⌝ }
-    ensures { λ r. ⌜ Accepts rates (stateOf line) (saidOf (r .answer)) (stateOf (r .line)) (λ xs. getD xs (line .step) (rates .order .blank) ≡ v) ⌝ }
+    requires { ⌜ LineSound (line .kind) (line .left) (line .right) (line .pixels) (line .step) (line .queue .start) (line .queue .count) × (line .step < line .pixels) ⌝ }
+    ensures { λ r. ⌜ Accepts rates (rateLine line) (ratePixel (r .answer)) (rateLine (r .line)) (λ xs. getD xs (line .step) (rates .order .blank) ≡ v) ⌝ }
 {
     let kind = line.kind;
     let t = line.step;
-    let mut q = line.queue;
-    let start = q.start;
-    let count = q.count;
+    let q = line.queue;
     let window = line_judge::window(kind, line.left, line.right);
     let e = Entry {
         value: v,
         position: row::position(t),
     };
-    let behind = queue::slot(start, count, 63);
-    let r = queue_rate::room(
-        kind,
-        window,
-        &q.values,
-        &q.positions,
-        start,
-        count,
-        behind,
-        e,
-    );
-    let at = r.at;
-    q.values[at] = e.value;
-    q.positions[at] = e.position;
-    q.start = r.start;
-    q.count = r.count + 1;
-    step_on(line, q, r.comparisons)
+    let pushed = row_rate::push(q, kind, window, e);
+    let next = pushed.queue;
+    let r = pushed.room;
+    step_on(line, next, r.comparisons)
 }
 
 // A step that reads: the pixel v is offered.
 pub fn read(line: Line, v: f32) -> Stepped
-    ensures { λ r. ⌜ Reads rates (stateOf line) (saidOf (r .answer)) (stateOf (r .line)) v ⌝ }
+    ensures { λ r. ⌜ Reads rates (rateLine line) (ratePixel (r .answer)) (rateLine (r .line)) v ⌝ }
 {
     let kind = line.kind;
     let q = line.queue;
@@ -197,8 +181,8 @@ pub fn read(line: Line, v: f32) -> Stepped
 
 // An accepted step that drains.
 fn drain_on(line: Line) -> Stepped
-    requires { ⌜ Sound (line .kind) (line .left) (line .right) (line .pixels) (line .step) (line .queue .start) (line .queue .count) × (line .pixels ≤ line .step) × (line .step < line .pixels + aheadOf (line .kind) (line .left) (line .right)) ⌝ }
-    ensures { λ r. ⌜ Accepts rates (stateOf line) (saidOf (r .answer)) (stateOf (r .line)) (λ xs. Unit {0}) ⌝ }
+    requires { ⌜ LineSound (line .kind) (line .left) (line .right) (line .pixels) (line .step) (line .queue .start) (line .queue .count) × (line .pixels ≤ line .step) × (line .step < line .pixels + aheadOf (line .kind) (line .left) (line .right)) ⌝ }
+    ensures { λ r. ⌜ Accepts rates (rateLine line) (ratePixel (r .answer)) (rateLine (r .line)) (λ xs. Unit {0}) ⌝ }
 {
     let kind = line.kind;
     let t = line.step;
@@ -214,7 +198,7 @@ fn drain_on(line: Line) -> Stepped
 
 // A step that drains: a drain is asked.
 pub fn drain(line: Line) -> Stepped
-    ensures { λ r. ⌜ Drains rates (stateOf line) (saidOf (r .answer)) (stateOf (r .line)) ⌝ }
+    ensures { λ r. ⌜ Drains rates (rateLine line) (ratePixel (r .answer)) (rateLine (r .line)) ⌝ }
 {
     let kind = line.kind;
     let q = line.queue;
@@ -235,7 +219,7 @@ pub fn drain(line: Line) -> Stepped
 
 // The entry of a queue place, the oldest at place 0.
 pub fn read_out(line: Line, place: usize) -> ReadOut
-    ensures { λ r. ⌜ shownOf r ≡ shownAt rates (stateOf line) place ⌝ }
+    ensures { λ r. ⌜ rateLineShown r ≡ lineShown rates (rateLine line) place ⌝ }
 {
     let kind = line.kind;
     let q = line.queue;

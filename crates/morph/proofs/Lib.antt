@@ -5,3 +5,4 @@ pub mod Step
 pub mod Picture
 pub mod Plan
 pub mod Ring
+pub mod Numbers

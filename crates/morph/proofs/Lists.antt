@@ -8,7 +8,7 @@ use native.Mathlib.Nat.{not-suc-le-zero, zero-sub, add-zero, add-suc, suc-add, z
 use native.Mathlib.Omega.{arith}
 use borrow.Author.Tests.{leb-true, leb-false}
 use lib.Dec.{leb}
-use lib.ListN.{length, take, drop, getD, length-take, length-drop}
+use lib.ListN.{length, take, drop, getD, set, length-take, length-drop}
 use lib.Seq.{slice, getD-take, getD-drop}
 use Rattle.morph.specs.Lists.{tabulate, sumTo, all, keep, Each, In}
 use Rattle.morph.specs.Line.{Entry, positioned}
@@ -105,6 +105,16 @@ module _ {A : Type 0} where
   each-getD P [] i d h k = absurd (not-suc-le-zero k)
   each-getD P (a ∷ l) zero d h k = h .0
   each-getD P (a ∷ l) (suc i) d h k = each-getD P l i d (h .1) (omega arith)
+
+  pub each-set : (P : A → Type 0) (l : List A) (i : ℕ) (a : A) → Each P l → P a → Each P (set l i a)
+  each-set P [] i a h p = tt
+  each-set P (b ∷ l) zero a h p = (p, h .1)
+  each-set P (b ∷ l) (suc i) a h p = (h .0, each-set P l i a (h .1) p)
+
+  -- a test that holds of all of a list, of each
+  pub all-hold : (p : A → Bool) (l : List A) → all p l ≡ true → Each (λ a. p a ≡ true) l
+  all-hold p [] h = tt
+  all-hold p (a ∷ l) h = let (b, c) = both (p a) (all p l) h in (b, all-hold p l c)
 
   pub each-weaken : (P Q : A → Type 0) (l : List A) → ((a : A) → P a → Q a) → Each P l → Each Q l
   each-weaken P Q [] f h = tt

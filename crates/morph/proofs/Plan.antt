@@ -47,7 +47,7 @@ module _ {A : Type 0} (S : Stage A) where
     column-drain h = queue-drain (S .order) _ _ s (rw column-length h)
 
     -- the queue rests on the rows read
-    column-prefix : columnQueue S x p s ≡ columnQueue S x (take s p) s
+    pub column-prefix : columnQueue S x p s ≡ columnQueue S x (take s p) s
     unfolding columnQueue queue across
     column-prefix = simp (take-map, take-take s s p (omega arith))
 

@@ -12,7 +12,7 @@ use lib.Seq.{take-suc, take-length, take-at}
 use Rattle.morph.specs.Order.{Order}
 use Rattle.morph.specs.Lists.{Each}
 use Rattle.morph.specs.Line.{Entry, aged, queue, falling, Rising, passed, unpassed, comparisons}
-use Rattle.morph.specs.Step.{popped, roomed, stepped, stepCost}
+use Rattle.morph.specs.Inner.{popped, roomed, stepped, stepCost}
 use Rattle.morph.proofs.Lists.{split, both, each-take, each-in}
 use Rattle.morph.proofs.Line.{passed-tail, passed-count, none-unpassed, queue-falls, queue-read, queue-drain, queue-rising, queue-sound}
 

@@ -1,5 +1,5 @@
 -- That the floats' own comparison is total and transitive on finite values: the two laws that the order of specs/Rate.antt carries.
--- No definition that a reader has to believe is made here. By which idea: x ≤ y of two fractions, cross-multiplied.
+-- Of its definitions a reader has to believe one, `floatLe`, the comparison of the order. By which idea: x ≤ y of two fractions, cross-multiplied.
 use mathlib.Core.Path.{_≡_, refl, sym}
 use mathlib.Core.Bool.{Bool, true, false, not, false≢true, _&&_, _||_}
 use Prim.Native.Nat.{ℕ, _+_, _*_, _≤_, _<_}

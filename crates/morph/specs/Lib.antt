@@ -6,5 +6,6 @@ pub mod Lists
 pub mod Line
 pub mod Picture
 pub mod Plan
-pub mod Step
 pub mod Ring
+pub mod Numbers
+pub mod Inner

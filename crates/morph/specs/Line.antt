@@ -16,6 +16,11 @@ pub record Entry (A : Type 0) : Type 0 where
   pub value : A
   pub position : ℕ
 
+-- what a read-out answers: the entry at a queue's place, or a refusal with document 01's number
+pub data Shown (A : Type 0) : Type 0 where
+  found : (entry : Entry A) → Shown A
+  refused : (number : ℕ) → Shown A
+
 module _ {A : Type 0} where
   -- the samples of a list as entries, the first at position k
   abbrev pub positioned : ℕ → List A → List (Entry A)

@@ -2,7 +2,7 @@
 -- Document 01: "Stated once over both sample kinds: the filter uses only the order."
 use mathlib.Core.Path.{_≡_}
 use mathlib.Core.Bool.{Bool, true, false}
-use Prim.Native.Nat.{ℕ}
+use Prim.Native.Nat.{ℕ, zero, suc}
 use Rattle.morph.specs.declared.Kind.{Kind}
 use Rattle.morph.specs.declared.Kind.the-variants.{Erosion, Dilation}
 
@@ -29,6 +29,11 @@ module _ {A : Type 0} where
 
   abbrev pub orderOf : Kind → Order A → Order A
   orderOf kind O = record { le = leOf kind (O .le); total = totalOf kind O; trans = transOf kind O; blank = O .blank }
+
+-- "0 (erosion) or 1 (dilation)"
+abbrev pub kindOf : ℕ → Kind
+kindOf zero = Erosion
+kindOf (suc n) = Dilation
 
 -- How far a window reaches back and ahead, of the extents a (left or up) and b (right or down).
 -- "For erosion across B = a, F = b; for dilation across B = b, F = a; down likewise with c and d."

@@ -1,3 +1,4 @@
-pub mod Runs
+pub mod Reading
 pub mod Unique
+pub mod Runs
 pub mod Answers

@@ -1,27 +1,39 @@
--- A step's outcome follows from its inputs: two outcomes that meet the promise are equal, the memory as the queues it holds and past the need. A refusal's outcome is equal in every cell.
-use mathlib.Core.Path.{_≡_, sym, ap, _∙_}
+-- "For each public function the answer, the state and all lent cells afterwards follow from its inputs alone": two outcomes that meet a promise are equal, the memory as the queues that it holds
+-- and past the need. A refusal's outcomes are equal in every cell. By which idea: the queues after t steps rest on the first t rows, so that any accepted row can stand next in a picture that left them.
+use mathlib.Core.Path.{_≡_, refl, sym, ap, _∙_}
+use mathlib.Core.Bool.{true, not}
 use mathlib.Core.List.{List, [], _∷_, map}
-use Prim.Native.Nat.{ℕ, _+_, _-_, _≤_, _<_}
+use Prim.Native.Nat.{ℕ, suc, _+_, _-_, _<_}
 use native.Mathlib.Omega.{arith}
-use borrow.Author.Tests.{leb-true, leb-false}
+use borrow.Author.Tests.{leb-true, leb-false, not-false}
 use lib.Dec.{leb}
-use lib.ListN.{getD}
-use Rattle.morph.specs.Lists.{Each}
+use lib.ListN.{length, getD, set, length-map, length-set}
+use lib.Seq.{take-set-le, getD-set-same}
+use Rattle.morph.specs.Lists.{Each, all}
 use Rattle.morph.specs.Picture.{Picture, Wide, Stage as Filter, applyStage, applyPlan}
-use Rattle.morph.proofs.Lists.{split}
+use Rattle.morph.proofs.Lists.{split, each-set, all-hold, each-map, each-weaken}
 use Rattle.morph.proofs.Picture.{stage-wide, stage-each}
 use Rattle.sample.specs.Samples.{Samples}
-use Rattle.plan_record.specs.Plan.{used, cellsNeeded, recordsNeeded, planAhead}
-use Rattle.stage.specs.Stage.{Memory, Whole}
-use Rattle.chain.specs.Run.{behind, Holds}
+use Rattle.plan_record.specs.declared.Stage.{Stage}
+use Rattle.morph.specs.Numbers.{given}
+use Rattle.plan_record.specs.Plan.{used, filterOf, belowOf, cellsOf, planAhead}
+use Rattle.morph.proofs.Numbers.{first-zero, given-zero}
+use Rattle.memory.specs.Memory.{Memory, behind, queueAt, Whole, Holds}
+use Rattle.chain.proofs.Rests.{holds-rests}
 use Rattle.picture_state.specs.declared.State.{State}
 use Rattle.picture_state.specs.declared.Answer.{Answer}
 use Rattle.picture_state.specs.declared.Answer.the-variants.{Row, NotYet, Refused}
-use Rattle.picture_state.specs.Numbers.{rowNumber, drainJudged}
-use Rattle.picture_state.specs.Step.{saidOf, saidAt, Advanced, Unchanged, RowStep, DrainStep}
+use Rattle.picture_state.specs.Numbers.{memoryJudged, offerNumber, rowNumber, drainNumber, drainJudged}
+use Rattle.picture_state.specs.Step.{rowSaidOf, rowSaidAt, Advanced, Unchanged, RowStep, DrainStep}
+use Rattle.picture_state.specs.ReadOut.{Shows}
+use Rattle.morph.specs.Line.{Shown}
+use Rattle.picture_state.proofs.Numbers.{offer-accepted, drain-accepted}
+use Rattle.picture_state.proofs.ReadingOut.{queue-run}
+use Rattle.picture.specs.Same.{Equal, SameQueues, SameStep, SamePast}
+use Rattle.picture.proofs.Reading.{shows-queue}
 
 -- what an answer says tells the answer
-pub answer-same : (a b : Answer) → saidOf a ≡ saidOf b → a ≡ b
+pub answer-same : (a b : Answer) → rowSaidOf a ≡ rowSaidOf b → a ≡ b
 answer-same (Row n c) (Row m d) e = cc
 answer-same (Row n c) (NotYet d) e = let z : _≡_ {A = ℕ} 0 1 = cc in absurd (omega arith)
 answer-same (Row n c) (Refused m d) e = let z : _≡_ {A = ℕ} 0 1 = cc in absurd (omega arith)
@@ -32,23 +44,64 @@ answer-same (Refused n c) (Row m d) e = let z : _≡_ {A = ℕ} 0 1 = cc in absu
 answer-same (Refused n c) (NotYet d) e = let z : _≡_ {A = ℕ} 0 1 = cc in absurd (omega arith)
 answer-same (Refused n c) (Refused m d) e = cc
 
+-- ---- what an accepted row is
+
+module _ {A : Type 0} (K : Samples A) (kind : ℕ) (S : State) (M : Memory A) (pixels out : List A) (n : rowNumber K kind S M pixels out ≡ 0) where
+  offer-zero : offerNumber kind S (length pixels) (length out) (length (M .values)) (length (M .positions)) (M .starts) (M .lengths) ≡ 0
+  unfolding rowNumber
+  offer-zero = first-zero (offerNumber kind S (length pixels) (length out) (length (M .values)) (length (M .positions)) (M .starts) (M .lengths)) (given 8 (not (all (K .good) pixels)) ∷ []) n .0
+
+  row-good : all (K .good) pixels ≡ true
+  unfolding rowNumber
+  row-good =
+      let (_, b) = first-zero (offerNumber kind S (length pixels) (length out) (length (M .values)) (length (M .positions)) (M .starts) (M .lengths)) (given 8 (not (all (K .good) pixels)) ∷ []) n in
+      not-false _ (given-zero 7 _ (first-zero (given 8 (not (all (K .good) pixels))) [] b .0))
+
+  -- it is in turn and as wide as the picture, the memory lent is in order, and its pixels, as they are read, are accepted ones
+  pub record Offered : Type 0 where
+    pub lent : memoryJudged kind S M ≡ 0
+    pub within : S .step < S .rows
+    pub wide : length (map (K .taken) pixels) ≡ S .width
+    pub given : Each (λ a. K .good a ≡ true) pixels
+    pub good : Each (λ a. K .good a ≡ true) (map (K .taken) pixels)
+
+  pub row-offered : Offered
+  row-offered =
+      let (a, b, c, _) = offer-accepted kind S (length (M .values)) (length (M .positions)) (M .starts) (M .lengths) (length pixels) (length out) offer-zero in
+      let g = all-hold (K .good) pixels row-good in
+      record { lent = a; within = b; wide = length-map pixels (K .taken) ∙ c; given = g; good = each-map _ (K .taken) pixels (each-weaken _ _ pixels (K .keeps) g) }
+
+-- ---- memories that hold the same queues
+
+module _ {A : Type 0} (K : Samples A) where
+  -- what one holds the other holds: no cell outside a queue is looked at, nor where a queue starts
+  holds-same : (ss : List Stage) (W : ℕ) (p : Picture A) (t : ℕ) (M N : Memory A)
+      → ((i x : ℕ) → i < length ss → x < W → queueAt K ss W M i x ≡ queueAt K ss W N i x) → Holds K ss W p t M → Holds K ss W p t N
+  unfolding Holds queueAt
+  holds-same [] W p t M N e h = tt
+  holds-same (s ∷ ss) W p t M N e h = (
+    λ x l. sym (e 0 x (omega arith) l) ∙ h .0 x l,
+    holds-same ss W (applyStage (filterOf (K .order) s) p) (t - belowOf s) (behind (cellsOf W s) W M) (behind (cellsOf W s) W N) (λ i x a b. e (suc i) x (omega arith) b) (h .1),
+  )
+
+  module _ (S : State) where
+    held-same : (p : Picture A) (t : ℕ) (M N : Memory A) → Holds K (used (S .plan)) (S .width) p t M → Holds K (used (S .plan)) (S .width) p t N → SameQueues K S M N
+    held-same p t M N h k i x a b = queue-run K (S .width) x b (used (S .plan)) i p t M a h ∙ sym (queue-run K (S .width) x b (used (S .plan)) i p t N a k)
+
+    -- such memories are judged alike, where both are in order
+    module _ (kind : ℕ) (M N : Memory A) (a : memoryJudged kind S M ≡ 0) (b : memoryJudged kind S N ≡ 0) where
+      pub numbers-same : (pixels out : List A) → (rowNumber K kind S M pixels out ≡ rowNumber K kind S N pixels out) × (drainJudged kind S M out ≡ drainJudged kind S N out)
+      unfolding rowNumber offerNumber drainNumber
+      numbers-same pixels out = (rw (a, b), rw (a, b))
+
+      pub read-out-same : SameQueues K S M N → (stage column place : ℕ) (r q : Shown A) → Shows K kind S M stage column place r → Shows K kind S N stage column place q → r ≡ q
+      read-out-same e stage column place r q h k =
+          let Q = queueAt K (used (S .plan)) (S .width) N stage column in
+          shows-queue K kind S M stage column place r Q a h (e stage column) ∙ sym (shows-queue K kind S N stage column place q Q b k (λ _ _. refl))
+
+-- ---- two outcomes
+
 module _ {A : Type 0} (K : Samples A) (S : State) where
-  -- two outcomes of a step over p: equal but for where a queue starts in its ring and the cells outside the queues
-  pub record Same (p : Picture A) (M₁ M₂ : Memory A) (out₁ out₂ : List A) (a₁ a₂ : Answer) (S₁ S₂ : State) : Type 0 where
-    pub answer : a₁ ≡ a₂
-    pub state : S₁ ≡ S₂
-    pub output : out₁ ≡ out₂
-    pub first-holds : Holds K (used (S .plan)) (S .width) p (S .step + 1) M₁
-    pub second-holds : Holds K (used (S .plan)) (S .width) p (S .step + 1) M₂
-    pub past : behind (cellsNeeded (S .plan) (S .width)) (recordsNeeded (S .plan) (S .width)) M₁ ≡ behind (cellsNeeded (S .plan) (S .width)) (recordsNeeded (S .plan) (S .width)) M₂
-
-  -- two outcomes of a refused call: equal in everything
-  pub record Equal (M₁ M₂ : Memory A) (out₁ out₂ : List A) (a₁ a₂ : Answer) (S₁ S₂ : State) : Type 0 where
-    pub answer : a₁ ≡ a₂
-    pub state : S₁ ≡ S₂
-    pub output : out₁ ≡ out₂
-    pub memory : M₁ ≡ M₂
-
   unchanged-equal : (n c : ℕ) (M : Memory A) (out : List A) (M₁ M₂ : Memory A) (out₁ out₂ : List A) (a₁ a₂ : Answer) (S₁ S₂ : State)
       → Unchanged K n c S M out M₁ out₁ a₁ S₁ → Unchanged K n c S M out M₂ out₂ a₂ S₂ → Equal M₁ M₂ out₁ out₂ a₁ a₂ S₁ S₂
   unchanged-equal n c M out M₁ M₂ out₁ out₂ a₁ a₂ S₁ S₂ h k = record {
@@ -58,23 +111,55 @@ module _ {A : Type 0} (K : Samples A) (S : State) where
     memory = h .memory ∙ sym (k .memory);
   }
 
-  advanced-same : (M : Memory A) (pixels out : List A) (M₁ M₂ : Memory A) (out₁ out₂ : List A) (a₁ a₂ : Answer) (S₁ S₂ : State)
-      → Advanced K S M pixels out M₁ out₁ a₁ S₁ → Advanced K S M pixels out M₂ out₂ a₂ S₂
+  advanced-same : (M N : Memory A) → SameQueues K S M N → (pixels out : List A) (M₁ M₂ : Memory A) (out₁ out₂ : List A) (a₁ a₂ : Answer) (S₁ S₂ : State)
+      → Advanced K S M pixels out M₁ out₁ a₁ S₁ → Advanced K S N pixels out M₂ out₂ a₂ S₂
       → (p : Picture A) → Whole K (S .width) (S .rows) p → Holds K (used (S .plan)) (S .width) p (S .step) M → (S .step < S .rows → pixels ≡ getD p (S .step) [])
-      → Same p M₁ M₂ out₁ out₂ a₁ a₂ S₁ S₂
-  advanced-same M pixels out M₁ M₂ out₁ out₂ a₁ a₂ S₁ S₂ h k p whole holds given =
+      → SameStep K S M₁ M₂ out₁ out₂ a₁ a₂ S₁ S₂
+  advanced-same M N e pixels out M₁ M₂ out₁ out₂ a₁ a₂ S₁ S₂ h k p whole holds given =
       let (x, y, z) = h .told p whole holds given in
-      let (u, v, w) = k .told p whole holds given in
+      let (u, v, w) = k .told p whole (holds-same K (used (S .plan)) (S .width) p (S .step) M N e holds) given in
       let D = planAhead (S .plan) in
       let c : h .comparisons ≡ k .comparisons = y ∙ sym v in
       record {
-        answer = answer-same a₁ a₂ (h .said ∙ ap (saidAt (leb D (S .step)) (S .step - D)) c ∙ sym (k .said));
+        answer = answer-same a₁ a₂ (h .said ∙ ap (rowSaidAt (leb D (S .step)) (S .step - D)) c ∙ sym (k .said));
         state = h .state ∙ sym (k .state);
         output = split (leb D (S .step)) (λ d. z (leb-true D (S .step) d) ∙ sym (w (leb-true D (S .step) d))) (λ d. h .early (leb-false D (S .step) d) ∙ sym (k .early (leb-false D (S .step) d)));
-        first-holds = x;
-        second-holds = u;
-        past = h .past ∙ sym (k .past);
+        queues = held-same K S p (S .step + 1) M₁ M₂ x u;
       }
+
+  -- a picture that left the memory goes on with the row
+  goes-on : (kind : ℕ) (M : Memory A) (pixels out : List A) → rowNumber K kind S M pixels out ≡ 0 → (p : Picture A) → Whole K (S .width) (S .rows) p → Holds K (used (S .plan)) (S .width) p (S .step) M
+      → (q : Picture A) × Whole K (S .width) (S .rows) q × Holds K (used (S .plan)) (S .width) q (S .step) M × (map (K .taken) pixels ≡ getD q (S .step) [])
+  goes-on kind M pixels out n p whole holds =
+      let o = row-offered K kind S M pixels out n in
+      let new = map (K .taken) pixels in
+      let q = set p (S .step) new in (
+        q,
+        record {
+          wide = each-set _ p (S .step) new (whole .wide) (o .wide);
+          high = length-set p (S .step) new ∙ whole .high;
+          good = each-set _ p (S .step) new (whole .good) (o .good);
+        },
+        holds-rests K (S .width) (used (S .plan)) p q (S .step) M (sym (length-set p (S .step) new)) (sym (take-set-le (S .step) p (S .step) new (omega arith))) holds,
+        sym (getD-set-same p (S .step) new [] (omega (arith, o .within, whole .high))),
+      )
+
+  -- ---- the calls on two memories that hold the same queues: neither where a queue starts nor what stands outside it is seen by a later call
+
+  module _ (kind : ℕ) (M N : Memory A) (e : SameQueues K S M N) (M₁ M₂ : Memory A) (out out₁ out₂ : List A) (a₁ a₂ : Answer) (S₁ S₂ : State) where
+    pub row-same : (pixels : List A) → RowStep K kind S M pixels out M₁ out₁ a₁ S₁ → RowStep K kind S N pixels out M₂ out₂ a₂ S₂ → rowNumber K kind S M pixels out ≡ 0
+        → rowNumber K kind S N pixels out ≡ 0 → (p : Picture A) → Whole K (S .width) (S .rows) p → Holds K (used (S .plan)) (S .width) p (S .step) M → SameStep K S M₁ M₂ out₁ out₂ a₁ a₂ S₁ S₂
+    row-same pixels h k n m p whole holds =
+        let (q, w, g, r) = goes-on kind M pixels out n p whole holds in
+        advanced-same M N e (map (K .taken) pixels) out M₁ M₂ out₁ out₂ a₁ a₂ S₁ S₂ (h .accepted n) (k .accepted m) q w g (λ _. r)
+
+    pub drain-same : DrainStep K kind S M out M₁ out₁ a₁ S₁ → DrainStep K kind S N out M₂ out₂ a₂ S₂ → drainJudged kind S M out ≡ 0 → drainJudged kind S N out ≡ 0
+        → (p : Picture A) → Whole K (S .width) (S .rows) p → Holds K (used (S .plan)) (S .width) p (S .step) M → SameStep K S M₁ M₂ out₁ out₂ a₁ a₂ S₁ S₂
+    drain-same h k n m p whole holds =
+        let (_, l, _, _) = drain-accepted kind S (length (M .values)) (length (M .positions)) (M .starts) (M .lengths) (length out) n in
+        advanced-same M N e [] out M₁ M₂ out₁ out₂ a₁ a₂ S₁ S₂ (h .accepted n) (k .accepted m) p whole holds (λ b. absurd (omega arith))
+
+  -- ---- the promises of a call
 
   module _ (kind : ℕ) (M : Memory A) (M₁ M₂ : Memory A) (out out₁ out₂ : List A) (a₁ a₂ : Answer) (S₁ S₂ : State) where
     pub row-refusal-unique : (pixels : List A) → RowStep K kind S M pixels out M₁ out₁ a₁ S₁ → RowStep K kind S M pixels out M₂ out₂ a₂ S₂ → (rowNumber K kind S M pixels out ≡ 0 → ⊥)
@@ -82,16 +167,21 @@ module _ {A : Type 0} (K : Samples A) (S : State) where
     row-refusal-unique pixels h k n = unchanged-equal _ _ M out M₁ M₂ out₁ out₂ a₁ a₂ S₁ S₂ (h .refusal n) (k .refusal n)
 
     pub row-unique : (pixels : List A) → RowStep K kind S M pixels out M₁ out₁ a₁ S₁ → RowStep K kind S M pixels out M₂ out₂ a₂ S₂ → rowNumber K kind S M pixels out ≡ 0
-        → (p : Picture A) → Whole K (S .width) (S .rows) p → Holds K (used (S .plan)) (S .width) p (S .step) M → map (K .taken) pixels ≡ getD p (S .step) []
-        → Same p M₁ M₂ out₁ out₂ a₁ a₂ S₁ S₂
-    row-unique pixels h k n p whole holds given = advanced-same M (map (K .taken) pixels) out M₁ M₂ out₁ out₂ a₁ a₂ S₁ S₂ (h .accepted n) (k .accepted n) p whole holds (λ _. given)
+        → (p : Picture A) → Whole K (S .width) (S .rows) p → Holds K (used (S .plan)) (S .width) p (S .step) M → SameStep K S M₁ M₂ out₁ out₂ a₁ a₂ S₁ S₂ × SamePast K S M₁ M₂
+    row-unique pixels h k n p whole holds = (
+      row-same kind M M (λ i x a b. refl) M₁ M₂ out out₁ out₂ a₁ a₂ S₁ S₂ pixels h k n n p whole holds,
+      h .accepted n .past ∙ sym (k .accepted n .past),
+    )
 
     pub drain-refusal-unique : DrainStep K kind S M out M₁ out₁ a₁ S₁ → DrainStep K kind S M out M₂ out₂ a₂ S₂ → (drainJudged kind S M out ≡ 0 → ⊥) → Equal M₁ M₂ out₁ out₂ a₁ a₂ S₁ S₂
     drain-refusal-unique h k n = unchanged-equal _ _ M out M₁ M₂ out₁ out₂ a₁ a₂ S₁ S₂ (h .refusal n) (k .refusal n)
 
     pub drain-unique : DrainStep K kind S M out M₁ out₁ a₁ S₁ → DrainStep K kind S M out M₂ out₂ a₂ S₂ → drainJudged kind S M out ≡ 0
-        → (p : Picture A) → Whole K (S .width) (S .rows) p → Holds K (used (S .plan)) (S .width) p (S .step) M → S .rows ≤ S .step → Same p M₁ M₂ out₁ out₂ a₁ a₂ S₁ S₂
-    drain-unique h k n p whole holds l = advanced-same M [] out M₁ M₂ out₁ out₂ a₁ a₂ S₁ S₂ (h .accepted n) (k .accepted n) p whole holds (λ b. absurd (omega arith))
+        → (p : Picture A) → Whole K (S .width) (S .rows) p → Holds K (used (S .plan)) (S .width) p (S .step) M → SameStep K S M₁ M₂ out₁ out₂ a₁ a₂ S₁ S₂ × SamePast K S M₁ M₂
+    drain-unique h k n p whole holds = (
+      drain-same kind M M (λ i x a b. refl) M₁ M₂ out out₁ out₂ a₁ a₂ S₁ S₂ h k n n p whole holds,
+      h .accepted n .past ∙ sym (k .accepted n .past),
+    )
 
 -- what holds of each pixel of a picture holds of each pixel that a plan makes of it
 pub plan-each : {A : Type 0} (Ss : List (Filter A)) (W : ℕ) (p : Picture A) (P : A → Type 0) → Wide W p → Each (Each P) p → Each (Each P) (applyPlan Ss p)

@@ -1,6 +1,6 @@
 -- What a read-out of a picture of grey bytes answers: document 01's number and values for each case.
 use Prim.Native.Nat.{ℕ}
-use Rattle.picture_state.specs.ReadOut.{Shown, found, refused}
+use Rattle.morph.specs.Line.{Shown, found, refused}
 use Rattle.picture_grey.specs.declared.ReadOut.{ReadOut}
 use Rattle.picture_grey.specs.declared.ReadOut.the-variants.{Found, Refused}
 

@@ -5,11 +5,13 @@ ghost use Prim.Native.Nat.{_+_, _<_};
 ghost use lib.ListN.{length};
 ghost use Rattle.sample.specs.Samples.{greys};
 ghost use Rattle.plan_record.specs.Plan.{planAhead};
-ghost use Rattle.picture_state.specs.Fit.{Fit};
+ghost use Rattle.picture_state.specs.Inner.{Fit, placeShown};
 ghost use Rattle.picture_state.specs.Step.{Advanced, RowStep, DrainStep};
-ghost use Rattle.columns.specs.Columns.{Lent, columnAt};
+ghost use Rattle.columns.specs.Inner.{Lent};
+ghost use Rattle.memory.specs.Memory.{memory, columnAt};
 ghost use Rattle.picture_grey.specs.Shown.{greyShown};
-ghost use Rattle.picture_state.specs.ReadOut.{found, refused, shownAt, Shows};
+ghost use Rattle.picture_state.specs.ReadOut.{Shows};
+ghost use Rattle.morph.specs.Line.{found, refused};
 use morph::wide;
 use picture_state::State;
 use picture_state::Stepped;
@@ -25,8 +27,8 @@ fn advance(
     starts: &mut [u8],
     lengths: &mut [u8],
 ) -> Stepped
-    requires { ⌜ Fit state (record { values = now values; positions = now positions; starts = now starts; lengths = now lengths }) × (length (now work) ≡ state .width) × (length (now out) ≡ state .width) × (state .step < state .rows + planAhead (state .plan)) ⌝ }
-    ensures { λ r. ⌜ Advanced greys state (record { values = now (values .entry); positions = now (positions .entry); starts = now (starts .entry); lengths = now (lengths .entry) }) (now (work .entry)) (now (out .entry)) (record { values = now (values .exit); positions = now (positions .exit); starts = now (starts .exit); lengths = now (lengths .exit) }) (now (out .exit)) (r .answer) (r .state) ⌝ }
+    requires { ⌜ Fit state (memory (now values) (now positions) (now starts) (now lengths)) × (length (now work) ≡ state .width) × (length (now out) ≡ state .width) × (state .step < state .rows + planAhead (state .plan)) ⌝ }
+    ensures { λ r. ⌜ Advanced greys state (memory (now (values .entry)) (now (positions .entry)) (now (starts .entry)) (now (lengths .entry))) (now (work .entry)) (now (out .entry)) (memory (now (values .exit)) (now (positions .exit)) (now (starts .exit)) (now (lengths .exit))) (now (out .exit)) (r .answer) (r .state) ⌝ }
 {
     let own = state.plan;
     let plan = picture_state::whole(own);
@@ -71,7 +73,7 @@ pub fn row(
     starts: &mut [u8],
     lengths: &mut [u8],
 ) -> Stepped
-    ensures { λ r. ⌜ RowStep greys 0 state (record { values = now (values .entry); positions = now (positions .entry); starts = now (starts .entry); lengths = now (lengths .entry) }) (now (row .entry)) (now (out .entry)) (record { values = now (values .exit); positions = now (positions .exit); starts = now (starts .exit); lengths = now (lengths .exit) }) (now (out .exit)) (r .answer) (r .state) ⌝ }
+    ensures { λ r. ⌜ RowStep greys 0 state (memory (now (values .entry)) (now (positions .entry)) (now (starts .entry)) (now (lengths .entry))) (now (row .entry)) (now (out .entry)) (memory (now (values .exit)) (now (positions .exit)) (now (starts .exit)) (now (lengths .exit))) (now (out .exit)) (r .answer) (r .state) ⌝ }
 {
     let number = picture_state::judging::judge_row(
         0,
@@ -109,7 +111,7 @@ pub fn drain(
     starts: &mut [u8],
     lengths: &mut [u8],
 ) -> Stepped
-    ensures { λ r. ⌜ DrainStep greys 0 state (record { values = now (values .entry); positions = now (positions .entry); starts = now (starts .entry); lengths = now (lengths .entry) }) (now (out .entry)) (record { values = now (values .exit); positions = now (positions .exit); starts = now (starts .exit); lengths = now (lengths .exit) }) (now (out .exit)) (r .answer) (r .state) ⌝ }
+    ensures { λ r. ⌜ DrainStep greys 0 state (memory (now (values .entry)) (now (positions .entry)) (now (starts .entry)) (now (lengths .entry))) (now (out .entry)) (memory (now (values .exit)) (now (positions .exit)) (now (starts .exit)) (now (lengths .exit))) (now (out .exit)) (r .answer) (r .state) ⌝ }
 {
     let number = picture_state::judging::judge_drain(
         0,
@@ -165,7 +167,7 @@ fn show<'a>(
     k: usize,
 ) -> ReadOut
     requires { ⌜ Lent places (length (now starts)) (now positions) (now starts) (now lengths) × (length (now values) ≡ length (now positions)) × (x < length (now starts)) ⌝ }
-    ensures { λ r. ⌜ greyShown r ≡ shownAt greys (columnAt greys places (now (values .entry)) (now (positions .entry)) (now (starts .entry)) (now (lengths .entry)) x) k ⌝ }
+    ensures { λ r. ⌜ greyShown r ≡ placeShown greys (columnAt greys places (now (values .entry)) (now (positions .entry)) (now (starts .entry)) (now (lengths .entry)) x) k ⌝ }
 {
     if wide(lengths[x]) <= k {
         return lacks(11);
@@ -184,7 +186,7 @@ pub fn read_out<'a>(
     starts: &'a [u8],
     lengths: &'a [u8],
 ) -> ReadOut
-    ensures { λ r. ⌜ Shows greys 0 state (record { values = now (values .entry); positions = now (positions .entry); starts = now (starts .entry); lengths = now (lengths .entry) }) stage column place (greyShown r) ⌝ }
+    ensures { λ r. ⌜ Shows greys 0 state (memory (now (values .entry)) (now (positions .entry)) (now (starts .entry)) (now (lengths .entry))) stage column place (greyShown r) ⌝ }
 {
     let number = picture_state::place::judge_place(
         0,

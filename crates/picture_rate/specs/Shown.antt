@@ -1,6 +1,6 @@
 -- What a read-out of a picture of floats answers: document 01's number and values for each case.
 use lib.Ieee.{Float}
-use Rattle.picture_state.specs.ReadOut.{Shown, found, refused}
+use Rattle.morph.specs.Line.{Shown, found, refused}
 use Rattle.picture_rate.specs.declared.ReadOut.{ReadOut}
 use Rattle.picture_rate.specs.declared.ReadOut.the-variants.{Found, Refused}
 

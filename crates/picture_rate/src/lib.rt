@@ -6,10 +6,12 @@ ghost use Prim.Native.Nat.{_+_, _<_};
 ghost use lib.ListN.{length};
 ghost use Rattle.sample.specs.Samples.{rates};
 ghost use Rattle.plan_record.specs.Plan.{planAhead};
-ghost use Rattle.columns.specs.Columns.{Lent, columnAt};
-ghost use Rattle.picture_state.specs.Fit.{Fit};
+ghost use Rattle.columns.specs.Inner.{Lent};
+ghost use Rattle.memory.specs.Memory.{memory, columnAt};
+ghost use Rattle.picture_state.specs.Inner.{Fit, placeShown};
 ghost use Rattle.picture_rate.specs.Shown.{rateShown};
-ghost use Rattle.picture_state.specs.ReadOut.{found, refused, shownAt, Shows};
+ghost use Rattle.picture_state.specs.ReadOut.{Shows};
+ghost use Rattle.morph.specs.Line.{found, refused};
 ghost use Rattle.picture_state.specs.Step.{Advanced, RowStep, DrainStep};
 use morph::wide;
 use picture_state::State;
@@ -26,8 +28,8 @@ fn advance(
     starts: &mut [u8],
     lengths: &mut [u8],
 ) -> Stepped
-    requires { ⌜ Fit state (record { values = now values; positions = now positions; starts = now starts; lengths = now lengths }) × (length (now work) ≡ state .width) × (length (now out) ≡ state .width) × (state .step < state .rows + planAhead (state .plan)) ⌝ }
-    ensures { λ r. ⌜ Advanced rates state (record { values = now (values .entry); positions = now (positions .entry); starts = now (starts .entry); lengths = now (lengths .entry) }) (now (work .entry)) (now (out .entry)) (record { values = now (values .exit); positions = now (positions .exit); starts = now (starts .exit); lengths = now (lengths .exit) }) (now (out .exit)) (r .answer) (r .state) ⌝ }
+    requires { ⌜ Fit state (memory (now values) (now positions) (now starts) (now lengths)) × (length (now work) ≡ state .width) × (length (now out) ≡ state .width) × (state .step < state .rows + planAhead (state .plan)) ⌝ }
+    ensures { λ r. ⌜ Advanced rates state (memory (now (values .entry)) (now (positions .entry)) (now (starts .entry)) (now (lengths .entry))) (now (work .entry)) (now (out .entry)) (memory (now (values .exit)) (now (positions .exit)) (now (starts .exit)) (now (lengths .exit))) (now (out .exit)) (r .answer) (r .state) ⌝ }
 {
     let own = state.plan;
     let plan = picture_state::whole(own);
@@ -81,7 +83,7 @@ pub fn row(
     starts: &mut [u8],
     lengths: &mut [u8],
 ) -> Stepped
-    ensures { λ r. ⌜ RowStep rates 1 state (record { values = now (values .entry); positions = now (positions .entry); starts = now (starts .entry); lengths = now (lengths .entry) }) (now (row .entry)) (now (out .entry)) (record { values = now (values .exit); positions = now (positions .exit); starts = now (starts .exit); lengths = now (lengths .exit) }) (now (out .exit)) (r .answer) (r .state) ⌝ }
+    ensures { λ r. ⌜ RowStep rates 1 state (memory (now (values .entry)) (now (positions .entry)) (now (starts .entry)) (now (lengths .entry))) (now (row .entry)) (now (out .entry)) (memory (now (values .exit)) (now (positions .exit)) (now (starts .exit)) (now (lengths .exit))) (now (out .exit)) (r .answer) (r .state) ⌝ }
 {
     let number = picture_state::judging::judge_row(
         1,
@@ -123,7 +125,7 @@ pub fn drain(
     starts: &mut [u8],
     lengths: &mut [u8],
 ) -> Stepped
-    ensures { λ r. ⌜ DrainStep rates 1 state (record { values = now (values .entry); positions = now (positions .entry); starts = now (starts .entry); lengths = now (lengths .entry) }) (now (out .entry)) (record { values = now (values .exit); positions = now (positions .exit); starts = now (starts .exit); lengths = now (lengths .exit) }) (now (out .exit)) (r .answer) (r .state) ⌝ }
+    ensures { λ r. ⌜ DrainStep rates 1 state (memory (now (values .entry)) (now (positions .entry)) (now (starts .entry)) (now (lengths .entry))) (now (out .entry)) (memory (now (values .exit)) (now (positions .exit)) (now (starts .exit)) (now (lengths .exit))) (now (out .exit)) (r .answer) (r .state) ⌝ }
 {
     let number = picture_state::judging::judge_drain(
         1,
@@ -179,7 +181,7 @@ fn show<'a>(
     k: usize,
 ) -> ReadOut
     requires { ⌜ Lent places (length (now starts)) (now positions) (now starts) (now lengths) × (length (now values) ≡ length (now positions)) × (x < length (now starts)) ⌝ }
-    ensures { λ r. ⌜ rateShown r ≡ shownAt rates (columnAt rates places (now (values .entry)) (now (positions .entry)) (now (starts .entry)) (now (lengths .entry)) x) k ⌝ }
+    ensures { λ r. ⌜ rateShown r ≡ placeShown rates (columnAt rates places (now (values .entry)) (now (positions .entry)) (now (starts .entry)) (now (lengths .entry)) x) k ⌝ }
 {
     if wide(lengths[x]) <= k {
         return lacks(11);
@@ -198,7 +200,7 @@ pub fn read_out<'a>(
     starts: &'a [u8],
     lengths: &'a [u8],
 ) -> ReadOut
-    ensures { λ r. ⌜ Shows rates 1 state (record { values = now (values .entry); positions = now (positions .entry); starts = now (starts .entry); lengths = now (lengths .entry) }) stage column place (rateShown r) ⌝ }
+    ensures { λ r. ⌜ Shows rates 1 state (memory (now (values .entry)) (now (positions .entry)) (now (starts .entry)) (now (lengths .entry))) stage column place (rateShown r) ⌝ }
 {
     let number = picture_state::place::judge_place(
         1,

@@ -12,18 +12,20 @@ use lib.ListN.{length, getD, take, drop, length-take, length-drop}
 use lib.Seq.{getD-take, take-suc, drop-drop, length-take-le}
 use Rattle.morph.specs.Lists.{Each}
 use Rattle.morph.proofs.Lists.{neither, each-in, in-place}
+use Rattle.morph.specs.Numbers.{given, firstOf}
+use Rattle.morph.proofs.Numbers.{first-one, first-skip, first-found, first-zero, given-zero, found}
 use Rattle.plan_record.specs.declared.Stage.{Stage}
 use Rattle.plan_record.specs.declared.Plan.{Plan}
-use Rattle.plan_record.specs.Numbers.{given, firstOf, sampleNumber, sizeNumber}
-use Rattle.plan_record.specs.Plan.{Small, unused, used, total, belowOf, sizeOf, recordNumber, cellsNeeded, recordsNeeded, planAhead}
-use Rattle.plan_record.proofs.Numbers.{first-one, first-skip, first-found, first-zero, given-zero, size-accepted}
+use Rattle.plan_record.specs.Numbers.{sampleNumber, sizeNumber}
+use Rattle.plan_record.specs.Plan.{unused, used, total, belowOf, sizeOf, recordNumber, cellsNeeded, recordsNeeded, planAhead}
+use Rattle.plan_record.specs.Inner.{Small}
+use Rattle.plan_record.proofs.Numbers.{size-accepted}
 use Rattle.plan_record.proofs.Named.{judged-count, judged-stage}
 use Rattle.stage.proofs.Stage.{ahead-small}
-use Rattle.columns.specs.Columns.{soundRecords}
-use Rattle.chain.specs.Run.{allSound}
+use Rattle.memory.specs.Memory.{soundRecords, allSound}
 use Rattle.picture_state.specs.declared.State.{State}
-use Rattle.picture_state.specs.Fit.{Accepted, Run}
-use Rattle.picture_state.specs.Numbers.{memoryNumber, stateNumber, kindNumber, recordsNumber, sharedNumber, lentNumber, offerNumber, drainNumber}
+use Rattle.picture_state.specs.Inner.{Accepted, StateSound}
+use Rattle.picture_state.specs.Numbers.{memoryNumber, stateNumber, stateKindNumber, recordsNumber, sharedNumber, lentNumber, offerNumber, drainNumber}
 
 pub plan-accepted : (plan : Plan) → recordNumber plan ≡ 0 → Accepted plan
 plan-accepted plan e = let (a, b) = judged-count plan e in record { some = a; few = b; small = judged-stage plan e }
@@ -45,7 +47,7 @@ ahead-few plan h = omega (arith, total-small (used plan) (used-small plan h), le
 
 -- ---- what an accepted state has
 
-pub state-accepted : (S : State) → stateNumber S ≡ 0 → (recordNumber (S .plan) ≡ 0) × Run S
+pub state-accepted : (S : State) → stateNumber S ≡ 0 → (recordNumber (S .plan) ≡ 0) × StateSound S
 unfolding stateNumber
 state-accepted S e =
     let (a, b) = neither (not (eqb (recordNumber (S .plan)) 0) || not (eqb (sampleNumber (S .sample)) 0) || not (eqb (sizeNumber (S .width) (S .rows)) 0)) _ (given-zero 11 _ e) in
@@ -106,11 +108,11 @@ module _ (kind : ℕ) (S : State) (cells records : ℕ) (starts lengths : List �
   after-kind = memoryNumber (S .plan) (S .width) cells records ∷ after-memory
 
   abbrev after-state : List ℕ
-  after-state = kindNumber kind S ∷ after-kind
+  after-state = stateKindNumber kind S ∷ after-kind
 
   pub shared-state : (n : ℕ) → n ≡ stateNumber S → (n ≡ 0 → ⊥) → n ≡ shared
   unfolding sharedNumber
-  shared-state n e h = e ∙ sym (first-found (stateNumber S) after-state (λ z. h (e ∙ z)))
+  shared-state n e h = found (stateNumber S) after-state e h
 
   module _ (a : stateNumber S ≡ 0) where
     pub shared-kind : (S .sample ≡ kind → ⊥) → 5 ≡ shared
@@ -131,7 +133,7 @@ module _ (kind : ℕ) (S : State) (cells records : ℕ) (starts lengths : List �
   -- and nothing is wrong: what that says
   pub record Shared : Type 0 where
     pub judged : recordNumber (S .plan) ≡ 0
-    pub run : Run S
+    pub run : StateSound S
     pub sample : S .sample ≡ kind
     pub cells-lent : cellsNeeded (S .plan) (S .width) ≤ cells
     pub records-lent : recordsNeeded (S .plan) (S .width) ≤ records
@@ -141,7 +143,7 @@ module _ (kind : ℕ) (S : State) (cells records : ℕ) (starts lengths : List �
   unfolding sharedNumber
   shared-accepted e =
       let (a, b) = first-zero (stateNumber S) after-state e in
-      let (c, d) = first-zero (kindNumber kind S) after-kind b in
+      let (c, d) = first-zero (stateKindNumber kind S) after-kind b in
       let (f, g) = first-zero (memoryNumber (S .plan) (S .width) cells records) after-memory d in
       let (h, _) = first-zero (recordsNumber S starts lengths) [] g in
       let (p, q) = state-accepted S a in
@@ -167,7 +169,7 @@ module _ (kind : ℕ) (S : State) (values positions : ℕ) (starts lengths : Lis
 
     pub offer-lent : (n : ℕ) → n ≡ lent → (n ≡ 0 → ⊥) → n ≡ offerNumber kind S row out values positions starts lengths
     unfolding offerNumber
-    offer-lent n e h = e ∙ sym (first-found lent offered (λ z. h (e ∙ z)))
+    offer-lent n e h = found lent offered e h
 
     pub offer-past : lent ≡ 0 → firstOf offered ≡ offerNumber kind S row out values positions starts lengths
     unfolding offerNumber
@@ -203,7 +205,7 @@ module _ (kind : ℕ) (S : State) (values positions : ℕ) (starts lengths : Lis
 
     pub drain-lent : (n : ℕ) → n ≡ lent → (n ≡ 0 → ⊥) → n ≡ drainNumber kind S out values positions starts lengths
     unfolding drainNumber
-    drain-lent n e h = e ∙ sym (first-found lent asked (λ z. h (e ∙ z)))
+    drain-lent n e h = found lent asked e h
 
     pub drain-past : lent ≡ 0 → firstOf asked ≡ drainNumber kind S out values positions starts lengths
     unfolding drainNumber

@@ -9,26 +9,25 @@ use borrow.Author.Tests.{le-leb, lt-leb, leb-false}
 use lib.Dec.{leb}
 use lib.ListN.{length, getD, take, drop, length-take, length-drop}
 use lib.Seq.{length-take-le, drop-drop, take-take, getD-take}
-use Rattle.morph.specs.Line.{Entry}
+use Rattle.morph.specs.Line.{Entry, Shown, found, refused}
 use Rattle.morph.specs.Picture.{Picture, applyStage, applyPlan, lookAhead}
 use Rattle.morph.specs.Plan.{columnQueue, planQueue}
 use Rattle.morph.proofs.Lists.{both, neither}
 use Rattle.morph.proofs.Picture.{stage-length}
+use Rattle.morph.specs.Numbers.{given, firstOf}
+use Rattle.morph.proofs.Numbers.{first-one, first-skip, first-found, first-zero, given-zero}
 use Rattle.sample.specs.Samples.{Samples}
-use Rattle.columns.specs.Columns.{Lent, soundRecords, columnAt, EntryAt}
+use Rattle.columns.specs.Inner.{Lent, EntryAt}
+use Rattle.memory.specs.Memory.{Memory, behind, columnAt, queueAt, soundRecords, allSound, Holds}
 use Rattle.columns.proofs.Column.{column-length}
-use Rattle.columns.proofs.Records.{test-sound}
+use Rattle.memory.proofs.Records.{test-sound}
 use Rattle.plan_record.specs.declared.Stage.{Stage}
 use Rattle.plan_record.specs.declared.Plan.{Plan}
-use Rattle.plan_record.specs.Numbers.{given, firstOf}
 use Rattle.plan_record.specs.Plan.{unused, used, filterOf, sizeOf, belowOf, cellsOf, total, cellsNeeded, recordsNeeded}
-use Rattle.plan_record.proofs.Numbers.{first-one, first-skip, first-found, first-zero, given-zero}
-use Rattle.stage.specs.Stage.{Memory}
-use Rattle.chain.specs.Run.{behind, allSound, Holds}
 use Rattle.picture_state.specs.declared.State.{State}
-use Rattle.picture_state.specs.Fit.{Accepted, Fit}
+use Rattle.picture_state.specs.Inner.{Accepted, Fit, placedNumber, placeShown}
 use Rattle.picture_state.specs.Numbers.{lentNumber, memoryJudged}
-use Rattle.picture_state.specs.ReadOut.{Shown, found, refused, placedNumber, queueAt, shownAt, readNumber, Shows}
+use Rattle.picture_state.specs.ReadOut.{readOutNumber, Shows}
 use Rattle.picture_state.proofs.Step.{judged-fit}
 
 -- ---- the number, but for the queue's place
@@ -84,12 +83,12 @@ module _ {A : Type 0} where
   answers false n s f e h = (λ k. absurd (k e), λ _. h)
 
 module _ {A : Type 0} (K : Samples A) (P x : ℕ) (vs : List A) (ps ss ls : List ℕ) (k n : ℕ) (s : Shown A) (e : n ≡ getD ls x 0) where
-  pub show-lacks : n ≤ k → s ≡ refused 11 → s ≡ shownAt K (columnAt K P vs ps ss ls x) k
+  pub show-lacks : n ≤ k → s ≡ refused 11 → s ≡ placeShown K (columnAt K P vs ps ss ls x) k
   show-lacks h q =
       let l = column-length K P x vs ps ss ls in
       q ∙ rw (le-leb (length (columnAt K P vs ps ss ls x)) k (omega arith))
 
-  pub show-finds : (v : A) (p : ℕ) → k < n → EntryAt K P vs ps ss x k v p → s ≡ found (record { value = v; position = p }) → s ≡ shownAt K (columnAt K P vs ps ss ls x) k
+  pub show-finds : (v : A) (p : ℕ) → k < n → EntryAt K P vs ps ss x k v p → s ≡ found (record { value = v; position = p }) → s ≡ placeShown K (columnAt K P vs ps ss ls x) k
   show-finds v p h g q =
       let l = column-length K P x vs ps ss ls in
       q ∙ rw (lt-leb (length (columnAt K P vs ps ss ls x)) k (omega arith)) (ap found (sym (g ls (record { value = K .order .blank; position = 0 }) (omega arith))))
@@ -262,8 +261,8 @@ module _ {A : Type 0} (S : State) (M : Memory A) (stage column cells places : �
         rw (e, f, own-begins, own-size) (sym (queue-cut W K column (used (S .plan)) stage M used-there))
 
     module _ (kind place : ℕ) (s : Shown A) (z : placedNumber kind S stage column (length (M .values)) (length (M .positions)) (M .starts) (M .lengths) ≡ 0) where
-      read-past : readNumber K kind S M stage column place ≡ given 11 (leb (length (queueAt K (used (S .plan)) W M stage column)) place)
-      unfolding readNumber
+      read-past : readOutNumber K kind S M stage column place ≡ given 11 (leb (length (queueAt K (used (S .plan)) W M stage column)) place)
+      unfolding readOutNumber
       read-past =
           let (a, b, c) = place-accepted kind S stage column (length (M .values)) (length (M .positions)) (M .starts) (M .lengths) z in
           let q = leb (length (queueAt K (used (S .plan)) W M stage column)) place in
@@ -271,28 +270,28 @@ module _ {A : Type 0} (S : State) (M : Memory A) (stage column cells places : �
           ∙ first-one (given 11 (leb (S .plan .count) stage || leb W column || q))
           ∙ rw (lt-leb (S .plan .count) stage b, lt-leb W column c)
 
-      pub shows-place : s ≡ shownAt K (columnAt K places (cells-of (M .values)) (cells-of (M .positions)) (records-of (M .starts)) (records-of (M .lengths)) column) place
+      pub shows-place : s ≡ placeShown K (columnAt K places (cells-of (M .values)) (cells-of (M .positions)) (records-of (M .starts)) (records-of (M .lengths)) column) place
           → Shows K kind S M stage column place s
       shows-place e =
           let q = queueAt K (used (S .plan)) W M stage column in
-          let (a, b) = answers (leb (length q) place) (readNumber K kind S M stage column place) s (found (getD q place (record { value = K .order .blank; position = 0 }))) read-past (e ∙ ap (λ q. shownAt K q place) place-queue) in
+          let (a, b) = answers (leb (length q) place) (readOutNumber K kind S M stage column place) s (found (getD q place (record { value = K .order .blank; position = 0 }))) read-past (e ∙ ap (λ q. placeShown K q place) place-queue) in
           record { refusal = a; accepted = b }
 
 module _ {A : Type 0} (K : Samples A) (kind : ℕ) (S : State) (M : Memory A) (stage column place : ℕ) where
   pub shows-refused : (n : ℕ) (s : Shown A) → n ≡ placedNumber kind S stage column (length (M .values)) (length (M .positions)) (M .starts) (M .lengths) → (n ≡ 0 → ⊥) → s ≡ refused n
       → Shows K kind S M stage column place s
-  unfolding readNumber placedNumber
+  unfolding readOutNumber placedNumber
   shows-refused n s e h q =
-      let r : readNumber K kind S M stage column place ≡ n =
+      let r : readOutNumber K kind S M stage column place ≡ n =
       first-stays (memoryJudged kind S M) (leb (S .plan .count) stage || leb (S .width) column) (leb (length (queueAt K (used (S .plan)) (S .width) M stage column)) place) (λ z. h (e ∙ z)) ∙ sym e in
       record { refusal = λ _. q ∙ ap refused (sym r); accepted = λ z. absurd (h (sym r ∙ z)) }
 
   -- the answer follows from the inputs alone
   pub shows-unique : (s t : Shown A) → Shows K kind S M stage column place s → Shows K kind S M stage column place t → s ≡ t
-  shows-unique s t h k = go (readNumber K kind S M stage column place) refl
+  shows-unique s t h k = go (readOutNumber K kind S M stage column place) refl
     where
-      go : (n : ℕ) → readNumber K kind S M stage column place ≡ n → s ≡ t
+      go : (n : ℕ) → readOutNumber K kind S M stage column place ≡ n → s ≡ t
       go zero e = h .accepted e ∙ sym (k .accepted e)
       go (suc n) e =
-          let z : readNumber K kind S M stage column place ≡ 0 → ⊥ = λ (y : readNumber K kind S M stage column place ≡ 0). omega arith in
+          let z : readOutNumber K kind S M stage column place ≡ 0 → ⊥ = λ (y : readOutNumber K kind S M stage column place ≡ 0). omega arith in
           h .refusal z ∙ sym (k .refusal z)

@@ -13,23 +13,24 @@ use lib.Seq.{drop-cons, set-at, getD-take, getD-drop, length-take-le}
 use Rattle.morph.specs.Picture.{Picture, applyStage}
 use Rattle.morph.specs.Plan.{columnQueue}
 use Rattle.morph.proofs.Line.{queue-start}
+use Rattle.morph.specs.Numbers.{given}
+use Rattle.morph.proofs.Numbers.{first-one, first-skip, first-found, first-zero, skip, found}
 use Rattle.sample.specs.Samples.{Samples}
-use Rattle.columns.specs.Columns.{soundRecords}
+use Rattle.memory.specs.Memory.{Memory, memory, frontOf, behind, soundRecords, allSound, StageHolds, Holds}
 use Rattle.columns.proofs.Column.{column-length}
-use Rattle.columns.proofs.Records.{sound-test}
+use Rattle.memory.proofs.Records.{sound-test}
 use Rattle.plan_record.specs.declared.Stage.{Stage}
 use Rattle.plan_record.specs.declared.Plan.{Plan}
-use Rattle.plan_record.specs.Numbers.{given, sampleNumber, sizeNumber}
+use Rattle.plan_record.specs.Numbers.{sampleNumber, sizeNumber}
 use Rattle.plan_record.specs.Plan.{used, sizeOf, cellsOf, belowOf, filterOf, recordNumber, recordsNeeded, planAhead, planOf, stagesFrom, planNumber, planRead}
 use Rattle.plan_record.specs.declared.Reading.{Reading}
-use Rattle.plan_record.proofs.Named.{judged-reading}
-use Rattle.plan_record.proofs.Numbers.{size-accepted, first-one, first-skip, first-found, first-zero}
-use Rattle.stage.specs.Stage.{Memory, StageHolds}
-use Rattle.chain.specs.Run.{frontOf, behind, allSound, Holds}
+use Rattle.plan_record.proofs.Laws.{used-plan}
+use Rattle.plan_record.proofs.Named.{judged-used, judged-reading}
+use Rattle.plan_record.proofs.Numbers.{size-accepted}
 use Rattle.picture_state.specs.declared.State.{State}
 use Rattle.picture_state.specs.declared.Started.{Started}
 use Rattle.picture_state.specs.Numbers.{memoryNumber, startNumber, stateNumber}
-use Rattle.picture_state.specs.Start.{firstState, noState, cleared, numbersNumber, Start}
+use Rattle.picture_state.specs.Start.{firstState, noState, cleared, numbersNumber, PictureStart}
 use Rattle.picture_state.proofs.Numbers.{plan-accepted, memory-accepted}
 
 -- ---- the number
@@ -50,28 +51,23 @@ module _ (plan : Plan) (sample width rows cells records : ℕ) where
 
   pub start-plan : (n : ℕ) → n ≡ recordNumber plan → (n ≡ 0 → ⊥) → n ≡ number
   unfolding startNumber
-  start-plan n e h = e ∙ sym (first-found (recordNumber plan) after-plan (λ z. h (e ∙ z)))
+  start-plan n e h = found (recordNumber plan) after-plan e h
 
   module _ (a : recordNumber plan ≡ 0) where
     pub start-sample : (n : ℕ) → n ≡ sampleNumber sample → (n ≡ 0 → ⊥) → n ≡ number
     unfolding startNumber
-    start-sample n e h = e ∙ sym (first-skip (recordNumber plan) after-plan a ∙ first-found (sampleNumber sample) after-sample (λ z. h (e ∙ z)))
+    start-sample n e h = skip (recordNumber plan) after-plan a (found (sampleNumber sample) after-sample e h)
 
     module _ (b : sampleNumber sample ≡ 0) where
       pub start-size : (n : ℕ) → n ≡ sizeNumber width rows → (n ≡ 0 → ⊥) → n ≡ number
       unfolding startNumber
-      start-size n e h =
-          e ∙ sym (first-skip (recordNumber plan) after-plan a ∙ first-skip (sampleNumber sample) after-sample b ∙ first-found (sizeNumber width rows) after-size (λ z. h (e ∙ z)))
+      start-size n e h = skip (recordNumber plan) after-plan a (skip (sampleNumber sample) after-sample b (found (sizeNumber width rows) after-size e h))
 
       pub start-memory : sizeNumber width rows ≡ 0 → (n : ℕ) → n ≡ memoryNumber plan width cells records → n ≡ number
       unfolding startNumber
       start-memory c n e =
-          e
-          ∙ sym
-          (first-skip (recordNumber plan) after-plan a
-          ∙ first-skip (sampleNumber sample) after-sample b
-          ∙ first-skip (sizeNumber width rows) after-size c
-          ∙ first-one (memoryNumber plan width cells records))
+          skip (recordNumber plan) after-plan a
+          (skip (sampleNumber sample) after-sample b (skip (sizeNumber width rows) after-size c (e ∙ sym (first-one (memoryNumber plan width cells records)))))
 
   -- nothing is wrong: what that says
   pub start-accepted : number ≡ 0 → (recordNumber plan ≡ 0) × (sampleNumber sample ≡ 0) × (sizeNumber width rows ≡ 0) × (memoryNumber plan width cells records ≡ 0)
@@ -121,11 +117,11 @@ start-fits plan sample width rows cells records e =
     (plan-accepted plan a .few, w, m)
 
 module _ (number needed : ℕ) (first : State) (starts lengths : List ℕ) where
-  pub start-refused : (n : ℕ) (r : Started) → n ≡ number → (n ≡ 0 → ⊥) → r .number ≡ n → r .state ≡ noState → Start number first needed starts lengths starts lengths r
+  pub start-refused : (n : ℕ) (r : Started) → n ≡ number → (n ≡ 0 → ⊥) → r .number ≡ n → r .state ≡ noState → PictureStart number first needed starts lengths starts lengths r
   start-refused n r e h q s = record { told = q ∙ e; refusal = λ _. (s, refl, refl); accepted = λ z. absurd (h (e ∙ z)) }
 
   pub start-went : (n : ℕ) (s : State) (starts′ lengths′ : List ℕ) → number ≡ 0 → n ≡ needed → s ≡ first → starts′ ≡ cleared n starts → lengths′ ≡ cleared n lengths
-      → Start number first needed starts lengths starts′ lengths′ (record { number = 0; state = s })
+      → PictureStart number first needed starts lengths starts′ lengths′ (record { number = 0; state = s })
   start-went n s starts′ lengths′ z e f a b =
       record { told = sym z; refusal = λ k. absurd (k z); accepted = λ _. (f, a ∙ ap (λ m. cleared m starts) e, b ∙ ap (λ m. cleared m lengths) e) }
 
@@ -137,7 +133,7 @@ started-same : (r q : Started) → r .number ≡ q .number → r .state ≡ q .s
 started-same r q a b = ap (λ n. started n (r .state)) a ∙ ap (λ s. started (q .number) s) b
 
 pub start-unique : (number needed : ℕ) (first : State) (starts lengths a b c d : List ℕ) (r q : Started)
-    → Start number first needed starts lengths a b r → Start number first needed starts lengths c d q → (r ≡ q) × (a ≡ c) × (b ≡ d)
+    → PictureStart number first needed starts lengths a b r → PictureStart number first needed starts lengths c d q → (r ≡ q) × (a ≡ c) × (b ≡ d)
 start-unique zero needed first starts lengths a b c d r q h k =
     let (x, y, z) = h .accepted refl in
     let (u, v, w) = k .accepted refl in
@@ -192,21 +188,24 @@ sound-zeros (s ∷ ss) W starts lengths a b m n =
 state-none : (m n k : ℕ) (b : Bool) → m ≡ 0 → n ≡ 0 → k ≡ 0 → b ≡ false → given 12 (not (eqb m 0) || not (eqb n 0) || not (eqb k 0) || b) ≡ 0
 state-none m n k b e f g h = rw (e, f, g, h)
 
-pub state-first : (plan : Plan) (sample width rows : ℕ) → recordNumber plan ≡ 0 → sampleNumber sample ≡ 0 → sizeNumber width rows ≡ 0 → stateNumber (firstState plan sample width rows) ≡ 0
+pub state-first : (plan : Plan) (sample width rows : ℕ) → plan .count ≤ length (plan .stages) → recordNumber plan ≡ 0 → sampleNumber sample ≡ 0 → sizeNumber width rows ≡ 0
+    → stateNumber (firstState plan sample width rows) ≡ 0
 unfolding stateNumber
-state-first plan sample width rows a b c =
-    state-none (recordNumber plan) (sampleNumber sample) (sizeNumber width rows) (ltb (rows + planAhead plan) 0) a b c (le-ltb (rows + planAhead plan) 0 (omega arith))
+state-first plan sample width rows long a b c =
+    let kept = planOf (used plan) in
+    state-none (recordNumber kept) (sampleNumber sample) (sizeNumber width rows) (ltb (rows + planAhead kept) 0) (judged-used plan long a) b c (le-ltb (rows + planAhead kept) 0 (omega arith))
 
--- After an accepted start the state breaks no rule, the records are sound, and for every picture the memory holds what no step leaves, whatever its cells hold.
+-- After an accepted start the state breaks no rule and has the plan's stages, the records are sound, and for every picture the memory holds what no step leaves, whatever its cells hold.
 pub record First {A : Type 0} (K : Samples A) (plan : Plan) (width : ℕ) (starts lengths : List ℕ) (S : State) : Type 0 where
   pub judged : stateNumber S ≡ 0
+  pub stages : used (S .plan) ≡ used plan
   pub sound : allSound width (used plan) starts lengths ≡ true
-  pub holds : (values : List A) (positions : List ℕ) (p : Picture A) → Holds K (used plan) width p 0 (record { values = values; positions = positions; starts = starts; lengths = lengths })
+  pub holds : (values : List A) (positions : List ℕ) (p : Picture A) → Holds K (used plan) width p 0 (memory values positions starts lengths)
 
-pub start-first : {A : Type 0} (K : Samples A) (plan : Plan) (sample width rows cells : ℕ) (starts lengths starts′ lengths′ : List ℕ) (r : Started)
-    → Start (startNumber plan sample width rows cells (min (length starts) (length lengths))) (firstState plan sample width rows) (recordsNeeded plan width) starts lengths starts′ lengths′ r
+pub start-first : {A : Type 0} (K : Samples A) (plan : Plan) (sample width rows cells : ℕ) (starts lengths starts′ lengths′ : List ℕ) (r : Started) → plan .count ≤ length (plan .stages)
+    → PictureStart (startNumber plan sample width rows cells (min (length starts) (length lengths))) (firstState plan sample width rows) (recordsNeeded plan width) starts lengths starts′ lengths′ r
     → r .number ≡ 0 → First K plan width starts′ lengths′ (r .state)
-start-first K plan sample width rows cells starts lengths starts′ lengths′ r h z =
+start-first K plan sample width rows cells starts lengths starts′ lengths′ r long h z =
     let e = sym (h .told) ∙ z in
     let (a, b, c, d) = start-accepted plan sample width rows cells (min (length starts) (length lengths)) e in
     let (_, m) = memory-accepted plan width cells (min (length starts) (length lengths)) d in
@@ -218,9 +217,10 @@ start-first K plan sample width rows cells starts lengths starts′ lengths′ r
     let ls : length starts′ ≡ length starts = ap length f ∙ cleared-long (recordsNeeded plan width) starts (omega arith) in
     let ll : length lengths′ ≡ length lengths = ap length g ∙ cleared-long (recordsNeeded plan width) lengths (omega arith) in
     record {
-      judged = ap stateNumber s ∙ state-first plan sample width rows a b c;
+      judged = ap stateNumber s ∙ state-first plan sample width rows long a b c;
+      stages = ap (λ S. used (S .plan)) s ∙ used-plan (used plan);
       sound = sound-zeros (used plan) width starts′ lengths′ zs zl (omega arith) (omega arith);
-      holds = λ values positions p. holds-first K (used plan) width p 0 refl (record { values = values; positions = positions; starts = starts′; lengths = lengths′ }) zl;
+      holds = λ values positions p. holds-first K (used plan) width p 0 refl (memory values positions starts′ lengths′) zl;
     }
 
 -- ---- a start of a plan in numbers
@@ -256,24 +256,33 @@ module _ (count : ℕ) (bytes : List ℕ) (sample width rows cells records : ℕ
     read-plan m = ap (λ r. r .plan) e ∙ simp (eq-eqb (planNumber count bytes) 0 m)
 
     pub numbers-refused : (needed : ℕ) (first : State) (starts lengths : List ℕ) (r : Started) → (R .number ≡ 0 → ⊥) → r .number ≡ R .number → r .state ≡ noState
-        → Start numbered first needed starts lengths starts lengths r
+        → PictureStart numbered first needed starts lengths starts lengths r
     numbers-refused needed first starts lengths r h q s =
         start-refused numbered needed first starts lengths (R .number) r (read-number ∙ numbers-plan (λ z. h (read-number ∙ z))) h q s
 
     pub numbers-went : (starts lengths starts′ lengths′ : List ℕ) (r : Started) → R .number ≡ 0
-        → Start (startNumber (R .plan) sample width rows cells records) (firstState (R .plan) sample width rows) (recordsNeeded (R .plan) width) starts lengths starts′ lengths′ r
-        → Start numbered (firstState plan-of sample width rows) (recordsNeeded plan-of width) starts lengths starts′ lengths′ r
+        → PictureStart (startNumber (R .plan) sample width rows cells records) (firstState (R .plan) sample width rows) (recordsNeeded (R .plan) width) starts lengths starts′ lengths′ r
+        → PictureStart numbered (firstState plan-of sample width rows) (recordsNeeded plan-of width) starts lengths starts′ lengths′ r
     numbers-went starts lengths starts′ lengths′ r z h =
         let m = sym read-number ∙ z in
-        let g = subst (λ (p : Plan). Start (startNumber p sample width rows cells records) (firstState p sample width rows) (recordsNeeded p width) starts lengths starts′ lengths′ r) (read-plan m) h in
-        subst (λ (n : ℕ). Start n (firstState plan-of sample width rows) (recordsNeeded plan-of width) starts lengths starts′ lengths′ r) (numbers-rest m) g
+        let g = subst (λ (p : Plan). PictureStart (startNumber p sample width rows cells records) (firstState p sample width rows) (recordsNeeded p width) starts lengths starts′ lengths′ r) (read-plan m) h in
+        subst (λ (n : ℕ). PictureStart n (firstState plan-of sample width rows) (recordsNeeded plan-of width) starts lengths starts′ lengths′ r) (numbers-rest m) g
 
--- the same of a start in numbers
+-- a start of a plan in numbers that is taken is a start of the plan that they say
+pub numbers-start : (count : ℕ) (bytes : List ℕ) (sample width rows cells : ℕ) (starts lengths starts′ lengths′ : List ℕ) (r : Started)
+    → PictureStart (numbersNumber count bytes sample width rows cells (min (length starts) (length lengths))) (firstState (planOf (stagesFrom count bytes)) sample width rows) (recordsNeeded (planOf (stagesFrom count bytes)) width) starts lengths starts′ lengths′ r
+    → r .number ≡ 0
+    → PictureStart (startNumber (planOf (stagesFrom count bytes)) sample width rows cells (min (length starts) (length lengths))) (firstState (planOf (stagesFrom count bytes)) sample width rows) (recordsNeeded (planOf (stagesFrom count bytes)) width) starts lengths starts′ lengths′ r
+numbers-start count bytes sample width rows cells starts lengths starts′ lengths′ r h z =
+    let plan = planOf (stagesFrom count bytes) in
+    let e = numbers-rest count bytes sample width rows cells (min (length starts) (length lengths)) (numbers-read count bytes sample width rows cells (min (length starts) (length lengths)) (sym (h .told) ∙ z)) in
+    subst (λ (n : ℕ). PictureStart n (firstState plan sample width rows) (recordsNeeded plan width) starts lengths starts′ lengths′ r) (sym e) h
+
+-- and so is what comes of it
 pub numbers-first : {A : Type 0} (K : Samples A) (count : ℕ) (bytes : List ℕ) (sample width rows cells : ℕ) (starts lengths starts′ lengths′ : List ℕ) (r : Started)
-    → Start (numbersNumber count bytes sample width rows cells (min (length starts) (length lengths))) (firstState (planOf (stagesFrom count bytes)) sample width rows) (recordsNeeded (planOf (stagesFrom count bytes)) width) starts lengths starts′ lengths′ r
+    → PictureStart (numbersNumber count bytes sample width rows cells (min (length starts) (length lengths))) (firstState (planOf (stagesFrom count bytes)) sample width rows) (recordsNeeded (planOf (stagesFrom count bytes)) width) starts lengths starts′ lengths′ r
     → r .number ≡ 0 → First K (planOf (stagesFrom count bytes)) width starts′ lengths′ (r .state)
 numbers-first K count bytes sample width rows cells starts lengths starts′ lengths′ r h z =
     let plan = planOf (stagesFrom count bytes) in
-    let e = numbers-rest count bytes sample width rows cells (min (length starts) (length lengths)) (numbers-read count bytes sample width rows cells (min (length starts) (length lengths)) (sym (h .told) ∙ z)) in
-    let g = subst (λ (n : ℕ). Start n (firstState plan sample width rows) (recordsNeeded plan width) starts lengths starts′ lengths′ r) (sym e) h in
-    start-first K plan sample width rows cells starts lengths starts′ lengths′ r g z
+    let long : plan .count ≤ length (plan .stages) = rw length-append (omega arith) in
+    start-first K plan sample width rows cells starts lengths starts′ lengths′ r long (numbers-start count bytes sample width rows cells starts lengths starts′ lengths′ r h z) z

@@ -1,30 +1,31 @@
 -- From the chain's step on the cut memory to the whole step's promise. By which idea: the stages look at no more than they need, so cutting the memory changes nothing.
 use mathlib.Core.Path.{_≡_, refl, sym, ap, _∙_, subst}
 use mathlib.Core.Bool.{Bool, true, false, not}
-use mathlib.Core.List.{List, [], _∷_, _++_, map}
+use mathlib.Core.List.{List, [], _∷_, map}
 use Prim.Native.Nat.{ℕ, zero, suc, _+_, _-_, _*_, _≤_, _<_, min}
 use native.Mathlib.Nat.{zero-add, suc-add}
 use native.Mathlib.Omega.{arith}
 use borrow.Author.Tests.{leb-true, leb-false, eq-eqb, ne-eqb}
 use lib.Dec.{leb}
-use lib.ListN.{length, take, drop, length-append, length-take, length-drop}
-use lib.Seq.{take-nil, length-take-le, take-take, take-at, drop-at}
+use lib.ListN.{length, take, drop, length-take}
+use lib.Seq.{take-nil, length-take-le, take-take}
 use Rattle.morph.specs.Lists.{all}
 use Rattle.morph.specs.Picture.{Picture, applyStage}
-use Rattle.sample.specs.Samples.{Samples, greys}
+use Rattle.morph.specs.Numbers.{given}
+use Rattle.morph.proofs.Numbers.{first-one, first-skip, first-found}
+use Rattle.sample.specs.Samples.{Samples, greys, firstBad}
 use Rattle.plan_record.specs.declared.Stage.{Stage}
 use Rattle.plan_record.specs.declared.Plan.{Plan}
 use Rattle.plan_record.specs.Plan.{used, filterOf, belowOf, cellsOf, total, cellsNeeded, recordsNeeded, planAhead}
-use Rattle.stage.specs.Stage.{Memory, StageHolds}
-use Rattle.chain.specs.Run.{frontOf, behind, allSound, Ready, Holds, PlanStep}
+use Rattle.memory.specs.Memory.{Memory, frontOf, behind, allSound, StageHolds, Holds}
+use Rattle.chain.specs.Inner.{Ready, PlanStep}
+use Rattle.chain.proofs.Memory.{AtLeast, Sized, AsLong, append, append-front, append-behind, append-long}
 use Rattle.picture_state.specs.declared.State.{State}
 use Rattle.picture_state.specs.declared.Answer.{Answer}
-use Rattle.picture_state.specs.Step.{Said, row, notYet, refused, saidOf, saidAt, nextState, Advanced, firstBad, RowStep, DrainStep}
-use Rattle.picture_state.proofs.Numbers.{shared-accepted, used-small, drain-accepted}
-use Rattle.picture_state.specs.Fit.{Run, Fit}
+use Rattle.picture_state.specs.Step.{RowSaid, row, notYet, refused, rowSaidOf, rowSaidAt, nextState, Advanced, RowStep, DrainStep}
+use Rattle.picture_state.proofs.Numbers.{shared-accepted, used-small, offer-accepted, drain-accepted}
+use Rattle.picture_state.specs.Inner.{StateSound, Fit}
 use Rattle.picture_state.specs.Numbers.{memoryJudged, offerNumber, rowNumber, drainJudged}
-use Rattle.plan_record.specs.Numbers.{given}
-use Rattle.plan_record.proofs.Numbers.{first-one, first-skip, first-found}
 
 -- ---- cutting
 
@@ -78,6 +79,24 @@ judged-fit kind S M e =
     let b = h .records-lent in
     record { run = h .run; values-lent = omega arith; positions-lent = omega arith; starts-lent = omega arith; lengths-lent = omega arith; sound = h .sound }
 
+-- what a step that is accepted may rely on: the memory fits, one more step is within the picture's, and the rows are as long as the width
+pub record Taken {A : Type 0} (S : State) (M : Memory A) (out : List A) : Type 0 where
+  pub fit : Fit S M
+  pub within : S .step < S .rows + planAhead (S .plan)
+  pub out-wide : length out ≡ S .width
+
+module _ {A : Type 0} (kind : ℕ) (S : State) (M : Memory A) where
+  pub offer-taken : (pixels out : List A) → offerNumber kind S (length pixels) (length out) (length (M .values)) (length (M .positions)) (M .starts) (M .lengths) ≡ 0
+      → Taken S M out × (length pixels ≡ S .width)
+  offer-taken pixels out e =
+      let (a, b, w, o) = offer-accepted kind S (length (M .values)) (length (M .positions)) (M .starts) (M .lengths) (length pixels) (length out) e in
+      (record { fit = judged-fit kind S M a; within = omega arith; out-wide = o }, w)
+
+  pub drain-taken : (out : List A) → drainJudged kind S M out ≡ 0 → Taken S M out
+  drain-taken out e =
+      let (a, _, d, w) = drain-accepted kind S (length (M .values)) (length (M .positions)) (M .starts) (M .lengths) (length out) e in
+      record { fit = judged-fit kind S M a; within = d; out-wide = w }
+
 module _ {A : Type 0} (K : Samples A) (S : State) (M : Memory A) (long : length (S .plan .stages) ≡ 16) where
   abbrev C : ℕ
   C = cellsNeeded (S .plan) (S .width)
@@ -88,7 +107,7 @@ module _ {A : Type 0} (K : Samples A) (S : State) (M : Memory A) (long : length 
   abbrev D : ℕ
   D = planAhead (S .plan)
 
-  used-long : Run S → length (used (S .plan)) ≡ S .plan .count
+  used-long : StateSound S → length (used (S .plan)) ≡ S .plan .count
   used-long r = rw length-take (omega (arith, r .plan .few))
 
   pub fit-ready : Fit S M → Ready (used (S .plan)) (S .width) (frontOf C R M)
@@ -107,13 +126,8 @@ module _ {A : Type 0} (K : Samples A) (S : State) (M : Memory A) (long : length 
       }
 
   -- what is needed comes back as F, before what is past the need
-  abbrev pub backed : Memory A → Memory A
-  backed F = record {
-    values = F .values ++ drop C (M .values);
-    positions = F .positions ++ drop C (M .positions);
-    starts = F .starts ++ drop R (M .starts);
-    lengths = F .lengths ++ drop R (M .lengths);
-  }
+  abbrev backed : Memory A → Memory A
+  backed F = append F (behind C R M)
 
   module _ (h : Fit S M) (row : List A) (wide : length row ≡ S .width) (F : Memory A) (row′ : List A) (c : ℕ) (due : Bool)
       (g : PlanStep K (used (S .plan)) (S .rows) (S .step) (frontOf C R M) row F row′ c due) where
@@ -123,28 +137,32 @@ module _ {A : Type 0} (K : Samples A) (S : State) (M : Memory A) (long : length 
     e : length (used (S .plan)) * S .width ≡ R
     e = rw (used-long (h .run))
 
-    v : length (F .values) ≡ C
-    v = ready′ .values-long
+    sized : Sized C R F
+    sized = record {
+      values-long = ready′ .values-long;
+      positions-long = ready′ .positions-long;
+      starts-long = ready′ .starts-long ∙ e;
+      lengths-long = ready′ .lengths-long ∙ e;
+    }
 
-    p : length (F .positions) ≡ C
-    p = ready′ .positions-long
-
-    s : length (F .starts) ≡ R
-    s = ready′ .starts-long ∙ e
-
-    l : length (F .lengths) ≡ R
-    l = ready′ .lengths-long ∙ e
+    backed-long : AsLong (backed F) M
+    backed-long =
+        let r = fit-ready h in
+        append-long C R M F
+        (record {
+          values-long = ready′ .values-long ∙ sym (r .values-long);
+          positions-long = ready′ .positions-long ∙ sym (r .positions-long);
+          starts-long = ready′ .starts-long ∙ sym (r .starts-long);
+          lengths-long = ready′ .lengths-long ∙ sym (r .lengths-long);
+        })
 
     backed-front : frontOf C R (backed F) ≡ F
-    backed-front = rw (take-at (F .values) (drop C (M .values)) C v, take-at (F .positions) (drop C (M .positions)) C p, take-at (F .starts) (drop R (M .starts)) R s, take-at (F .lengths) (drop R (M .lengths)) R l)
-
-    backed-past : behind C R (backed F) ≡ behind C R M
-    backed-past = rw (drop-at (F .values) (drop C (M .values)) C v, drop-at (F .positions) (drop C (M .positions)) C p, drop-at (F .starts) (drop R (M .starts)) R s, drop-at (F .lengths) (drop R (M .lengths)) R l)
+    backed-front = append-front C R F (behind C R M) sized
 
     backed-sound : allSound (S .width) (used (S .plan)) (backed F .starts) (backed F .lengths) ≡ true
     backed-sound =
         sym (sound-cut (S .width) (used (S .plan)) (backed F .starts) (backed F .lengths))
-        ∙ rw (e, take-at (F .starts) (drop R (M .starts)) R s, take-at (F .lengths) (drop R (M .lengths)) R l) (ready′ .sound)
+        ∙ rw e (ap (λ (m : Memory A). allSound (S .width) (used (S .plan)) (m .starts) (m .lengths)) backed-front ∙ ready′ .sound)
 
     holds-back : (q : Picture A) (t : ℕ) → Holds K (used (S .plan)) (S .width) q t F → Holds K (used (S .plan)) (S .width) q t (backed F)
     holds-back q t k =
@@ -152,16 +170,16 @@ module _ {A : Type 0} (K : Samples A) (S : State) (M : Memory A) (long : length 
 
     -- the step's promise, whatever the answer says of the row
     module _ (out out′ : List A) (answer : Answer) (S′ : State) (next : S′ ≡ nextState S) (within : S .step < S .rows + D) where
-      pub advanced : saidOf answer ≡ saidAt (leb D (S .step)) (S .step - D) c → (S .step < D → out′ ≡ out) → (D ≤ S .step → out′ ≡ row′) → Advanced K S M row out (backed F) out′ answer S′
+      advanced : rowSaidOf answer ≡ rowSaidAt (leb D (S .step)) (S .step - D) c → (S .step < D → out′ ≡ out) → (D ≤ S .step → out′ ≡ row′) → Advanced K S M row out (backed F) out′ answer S′
       advanced said early late = record {
         comparisons = c;
         said = said;
         state = next;
-        values-long = rw (length-append, v, length-drop) (omega (arith, h .values-lent));
-        positions-long = rw (length-append, p, length-drop) (omega (arith, h .positions-lent));
-        starts-long = rw (length-append, s, length-drop) (omega (arith, h .starts-lent));
-        lengths-long = rw (length-append, l, length-drop) (omega (arith, h .lengths-lent));
-        past = backed-past;
+        values-long = backed-long .values-long;
+        positions-long = backed-long .positions-long;
+        starts-long = backed-long .starts-long;
+        lengths-long = backed-long .lengths-long;
+        past = append-behind C R F (behind C R M) sized;
         sound = backed-sound;
         early = early;
         told = λ q whole holds given.
@@ -185,50 +203,55 @@ module _ (D t : ℕ) (due : Bool) (w : due ≡ leb D t) where
   pub early-not-late : due ≡ false → D ≤ t → ⊥
   early-not-late d h = omega (arith, due-early d)
 
-  pub due-said : (L c : ℕ) (s : Said) → due ≡ true → L ≡ D → s ≡ row (t - L) c → s ≡ saidAt (leb D t) (t - D) c
+  pub due-said : (L c : ℕ) (s : RowSaid) → due ≡ true → L ≡ D → s ≡ row (t - L) c → s ≡ rowSaidAt (leb D t) (t - D) c
   due-said L c s d e h = rw (← w, d, ← e) h
 
-  pub early-said : (c : ℕ) (s : Said) → due ≡ false → s ≡ notYet c → s ≡ saidAt (leb D t) (t - D) c
+  pub early-said : (c : ℕ) (s : RowSaid) → due ≡ false → s ≡ notYet c → s ≡ rowSaidAt (leb D t) (t - D) c
   early-said c s d h = rw (← w, d) h
 
 -- ---- the same of the plan, the cells and the records as the code has them
 
 module _ {A : Type 0} (K : Samples A) (S : State) (M : Memory A) (plan : Plan) (cells records : ℕ) (same : (plan ≡ S .plan) × (length (S .plan .stages) ≡ 16))
-    (c : cells ≡ cellsNeeded plan (S .width)) (r : records ≡ recordsNeeded plan (S .width)) (h : Fit S M) (pixels : List A) (wide : length pixels ≡ S .width) where
-  pub run-ready : Ready (used plan) (length pixels) (frontOf cells records M)
-  run-ready = rw (wide, c, r, same .0) (fit-ready K S M (same .1) h)
+    (c : cells ≡ cellsNeeded plan (S .width)) (r : records ≡ recordsNeeded plan (S .width)) (h : Fit S M) where
+  pub fit-lent : AtLeast cells records M
+  fit-lent = rw (c, r, same .0) (record { values-long = h .values-lent; positions-long = h .positions-lent; starts-long = h .starts-lent; lengths-long = h .lengths-lent })
 
-  -- what is needed comes back as F
-  abbrev pub put : Memory A → Memory A
-  put F = record {
-    values = F .values ++ drop cells (M .values);
-    positions = F .positions ++ drop cells (M .positions);
-    starts = F .starts ++ drop records (M .starts);
-    lengths = F .lengths ++ drop records (M .lengths);
-  }
+  pub run-ready : (pixels : List A) → length pixels ≡ S .width → Ready (used plan) (length pixels) (frontOf cells records M)
+  run-ready pixels wide = rw (wide, c, r, same .0) (fit-ready K S M (same .1) h)
 
-  module _ (F : Memory A) (pixels′ : List A) (n : ℕ) (due : Bool) (g : PlanStep K (used plan) (S .rows) (S .step) (frontOf cells records M) pixels F pixels′ n due) where
-    when : due ≡ leb (planAhead (S .plan)) (S .step)
-    when = g .when ∙ ap (λ (p : Plan). leb (planAhead p) (S .step)) (same .0)
+-- the stages of the state's plan have run on what is needed of the memory, and F and pixels′ came back
+pub record Went {A : Type 0} (K : Samples A) (S : State) (M : Memory A) (pixels : List A) (plan : Plan) (cells records : ℕ) (F : Memory A) (pixels′ : List A) (n : ℕ) (due : Bool) : Type 0 where
+  pub same : (plan ≡ S .plan) × (length (S .plan .stages) ≡ 16)
+  pub cells-are : cells ≡ cellsNeeded plan (S .width)
+  pub records-are : records ≡ recordsNeeded plan (S .width)
+  pub fit : Fit S M
+  pub wide : length pixels ≡ S .width
+  pub step : PlanStep K (used plan) (S .rows) (S .step) (frontOf cells records M) pixels F pixels′ n due
 
-    pub ran-late : {L : ℕ} → due ≡ true → L ≡ planAhead plan → L ≤ S .step
-    ran-late d e = rw (e, same .0) (due-late (planAhead (S .plan)) (S .step) due when d)
+module _ {A : Type 0} {K : Samples A} {S : State} {M : Memory A} {pixels : List A} {plan : Plan} {cells records : ℕ} {F : Memory A} {pixels′ : List A} {n : ℕ} {due : Bool}
+    (g : Went K S M pixels plan cells records F pixels′ n due) where
+  when : due ≡ leb (planAhead (S .plan)) (S .step)
+  when = g .step .when ∙ ap (λ (p : Plan). leb (planAhead p) (S .step)) (g .same .0)
 
-    module _ (answer : Answer) (S′ : State) (next : S′ ≡ nextState S) (within : S .step < S .rows + planAhead (S .plan)) (out : List A) where
-      stepped : (out′ : List A) → saidOf answer ≡ saidAt (leb (planAhead (S .plan)) (S .step)) (S .step - planAhead (S .plan)) n → (S .step < planAhead (S .plan) → out′ ≡ out)
-          → (planAhead (S .plan) ≤ S .step → out′ ≡ pixels′) → Advanced K S M pixels out (put F) out′ answer S′
-      stepped out′ said early late =
-          rw (c, r, same .0) (advanced K S M (same .1) h pixels wide F pixels′ n due (rw (c, r, same .0) at g) out out′ answer S′ next within said early late)
+  pub ran-late : {L : ℕ} → due ≡ true → L ≡ planAhead plan → L ≤ S .step
+  ran-late d e = rw (e, g .same .0) (due-late (planAhead (S .plan)) (S .step) due when d)
 
-      pub ran-due : {L : ℕ} (out′ : List A) → due ≡ true → L ≡ planAhead plan → saidOf answer ≡ row (S .step - L) n → out′ ≡ pixels′ → Advanced K S M pixels out (put F) out′ answer S′
-      ran-due {L} out′ d e s q =
-          stepped out′ (due-said (planAhead (S .plan)) (S .step) due when L n (saidOf answer) d (e ∙ ap planAhead (same .0)) s)
-          (λ k. absurd (late-not-early (planAhead (S .plan)) (S .step) due when d k)) (λ _. q)
+  module _ (answer : Answer) (S′ : State) (next : S′ ≡ nextState S) (within : S .step < S .rows + planAhead (S .plan)) (out : List A) where
+    stepped : (out′ : List A) → rowSaidOf answer ≡ rowSaidAt (leb (planAhead (S .plan)) (S .step)) (S .step - planAhead (S .plan)) n → (S .step < planAhead (S .plan) → out′ ≡ out)
+        → (planAhead (S .plan) ≤ S .step → out′ ≡ pixels′) → Advanced K S M pixels out (append F (behind cells records M)) out′ answer S′
+    stepped out′ said early late =
+        rw (g .cells-are, g .records-are, g .same .0)
+        (advanced K S M (g .same .1) (g .fit) pixels (g .wide) F pixels′ n due (rw (g .cells-are, g .records-are, g .same .0) at (g .step)) out out′ answer S′ next within said early late)
 
-      pub ran-early : due ≡ false → saidOf answer ≡ notYet n → Advanced K S M pixels out (put F) out answer S′
-      ran-early d s =
-          stepped out (early-said (planAhead (S .plan)) (S .step) due when n (saidOf answer) d s) (λ _. refl)
-          (λ k. absurd (early-not-late (planAhead (S .plan)) (S .step) due when d k))
+    pub ran-due : {L : ℕ} (out′ : List A) → due ≡ true → L ≡ planAhead plan → rowSaidOf answer ≡ row (S .step - L) n → out′ ≡ pixels′ → Advanced K S M pixels out (append F (behind cells records M)) out′ answer S′
+    ran-due {L} out′ d e s q =
+        stepped out′ (due-said (planAhead (S .plan)) (S .step) due when L n (rowSaidOf answer) d (e ∙ ap planAhead (g .same .0)) s)
+        (λ k. absurd (late-not-early (planAhead (S .plan)) (S .step) due when d k)) (λ _. q)
+
+    pub ran-early : due ≡ false → rowSaidOf answer ≡ notYet n → Advanced K S M pixels out (append F (behind cells records M)) out answer S′
+    ran-early d s =
+        stepped out (early-said (planAhead (S .plan)) (S .step) due when n (rowSaidOf answer) d s) (λ _. refl)
+        (λ k. absurd (early-not-late (planAhead (S .plan)) (S .step) due when d k))
 
 -- ---- the two steps' promises, put together
 
@@ -248,7 +271,7 @@ module _ {A : Type 0} (K : Samples A) (kind : ℕ) (S : State) (M : Memory A) wh
     unfolding rowNumber
     row-past z = first-skip offer (eight ∷ []) z ∙ first-one eight
 
-    pub refuses-row : (n : ℕ) (answer : Answer) (S′ : State) → n ≡ offer → (n ≡ 0 → ⊥) → saidOf answer ≡ refused n 0 → S′ ≡ S → RowStep K kind S M pixels out M out answer S′
+    pub refuses-row : (n : ℕ) (answer : Answer) (S′ : State) → n ≡ offer → (n ≡ 0 → ⊥) → rowSaidOf answer ≡ refused n 0 → S′ ≡ S → RowStep K kind S M pixels out M out answer S′
     refuses-row n answer S′ e h s q =
         let z : offer ≡ 0 → ⊥ = λ k. h (e ∙ k) in
         record {
@@ -256,7 +279,7 @@ module _ {A : Type 0} (K : Samples A) (kind : ℕ) (S : State) (M : Memory A) wh
           accepted = λ k. absurd (z (sym (row-found z) ∙ k));
         }
 
-    pub bad-row : (answer : Answer) (S′ : State) → offer ≡ 0 → all (K .good) pixels ≡ false → saidOf answer ≡ refused 8 (firstBad K pixels) → S′ ≡ S → RowStep K kind S M pixels out M out answer S′
+    pub bad-row : (answer : Answer) (S′ : State) → offer ≡ 0 → all (K .good) pixels ≡ false → rowSaidOf answer ≡ refused 8 (firstBad K pixels) → S′ ≡ S → RowStep K kind S M pixels out M out answer S′
     bad-row answer S′ z b s q =
         let e : rowNumber K kind S M pixels out ≡ 8 = row-past z ∙ rw b in
         record {
@@ -270,7 +293,7 @@ module _ {A : Type 0} (K : Samples A) (kind : ℕ) (S : State) (M : Memory A) wh
         let e : rowNumber K kind S M pixels out ≡ 0 = row-past z ∙ rw b in record { refusal = λ k. absurd (k e); accepted = λ _. h }
 
   module _ (out : List A) where
-    pub refuses-drain : (n : ℕ) (answer : Answer) (S′ : State) → n ≡ drainJudged kind S M out → (n ≡ 0 → ⊥) → saidOf answer ≡ refused n 0 → S′ ≡ S → DrainStep K kind S M out M out answer S′
+    pub refuses-drain : (n : ℕ) (answer : Answer) (S′ : State) → n ≡ drainJudged kind S M out → (n ≡ 0 → ⊥) → rowSaidOf answer ≡ refused n 0 → S′ ≡ S → DrainStep K kind S M out M out answer S′
     refuses-drain n answer S′ e h s q = record { refusal = λ _. record { said = rw (← e) s; state = q; memory = refl; output = refl }; accepted = λ k. absurd (h (e ∙ k)) }
 
     -- the row that the stages worked on is none of the picture's

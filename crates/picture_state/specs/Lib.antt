@@ -1,5 +1,5 @@
 pub mod Numbers
-pub mod Fit
 pub mod Step
 pub mod Start
 pub mod ReadOut
+pub mod Inner

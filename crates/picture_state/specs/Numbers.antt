@@ -5,12 +5,12 @@ use Prim.Native.Nat.{ℕ, _+_, min}
 use lib.Dec.{eqb, ltb, leb}
 use lib.ListN.{length}
 use Rattle.morph.specs.Lists.{all}
+use Rattle.morph.specs.Numbers.{given, firstOf}
 use Rattle.sample.specs.Samples.{Samples}
 use Rattle.plan_record.specs.declared.Plan.{Plan}
-use Rattle.plan_record.specs.Numbers.{given, firstOf, sampleNumber, sizeNumber}
+use Rattle.plan_record.specs.Numbers.{sampleNumber, sizeNumber}
 use Rattle.plan_record.specs.Plan.{used, recordNumber, cellsNeeded, recordsNeeded, planAhead}
-use Rattle.stage.specs.Stage.{Memory}
-use Rattle.chain.specs.Run.{allSound}
+use Rattle.memory.specs.Memory.{Memory, allSound}
 use Rattle.picture_state.specs.declared.State.{State}
 
 -- "6 | lent queue memory has fewer cells or column records than needed"
@@ -32,8 +32,8 @@ stateNumber S =
     || ltb (S .rows + planAhead (S .plan)) (S .step))
 
 -- "5 | .. a plan's step or read-out is not for its state's kind"
-abbrev pub kindNumber : ℕ → State → ℕ
-kindNumber kind S = given 5 (not (eqb (S .sample) kind))
+abbrev pub stateKindNumber : ℕ → State → ℕ
+stateKindNumber kind S = given 5 (not (eqb (S .sample) kind))
 
 -- "12 | .. a queue's start is not below its places, or its length over its window (c+d+1 for both in a column ..)"
 abbrev pub recordsNumber : State → List ℕ → List ℕ → ℕ
@@ -42,7 +42,7 @@ recordsNumber S starts lengths = given 12 (not (allSound (S .width) (used (S .pl
 -- "In a step: 12 for the state's own fields, 5, 6, 12 for the column records, then ..": the numbers that a step and a read-out of that sample kind share
 unfoldable pub sharedNumber : ℕ → State → ℕ → ℕ → List ℕ → List ℕ → ℕ
 sharedNumber kind S cells records starts lengths =
-    firstOf (stateNumber S ∷ kindNumber kind S ∷ memoryNumber (S .plan) (S .width) cells records ∷ recordsNumber S starts lengths ∷ [])
+    firstOf (stateNumber S ∷ stateKindNumber kind S ∷ memoryNumber (S .plan) (S .width) cells records ∷ recordsNumber S starts lengths ∷ [])
 
 -- The cells lent are the shorter of the values and the positions, the records the shorter of the starts and the lengths.
 abbrev pub lentNumber : ℕ → State → ℕ → ℕ → List ℕ → List ℕ → ℕ

@@ -1,16 +1,15 @@
 -- What a step of a picture promises: of its answer, its state, all lent cells and records, and the output row.
 use mathlib.Core.Path.{_≡_}
 use mathlib.Core.Bool.{Bool, true, cond}
-use mathlib.Core.List.{List, [], _∷_, map}
-use Prim.Native.Nat.{ℕ, suc, _+_, _-_, _≤_, _<_}
+use mathlib.Core.List.{List, [], map}
+use Prim.Native.Nat.{ℕ, _+_, _-_, _≤_, _<_}
 use lib.Dec.{eqb, leb}
 use lib.ListN.{length, getD}
 use Rattle.morph.specs.Picture.{Picture, applyPlan}
 use Rattle.morph.specs.Plan.{planCost}
-use Rattle.sample.specs.Samples.{Samples}
+use Rattle.sample.specs.Samples.{Samples, firstBad}
 use Rattle.plan_record.specs.Plan.{used, stagesOf, cellsNeeded, recordsNeeded, planAhead}
-use Rattle.stage.specs.Stage.{Memory, Whole}
-use Rattle.chain.specs.Run.{behind, Holds, allSound}
+use Rattle.memory.specs.Memory.{Memory, behind, allSound, Whole, Holds}
 use Rattle.picture_state.specs.declared.State.{State}
 use Rattle.picture_state.specs.declared.Answer.{Answer}
 use Rattle.picture_state.specs.declared.Answer.the-variants.{Row, NotYet, Refused}
@@ -19,19 +18,19 @@ use Rattle.picture_state.specs.Numbers.{offerNumber, rowNumber, drainJud
 -- ---- what an answer says
 
 -- "A step answers with an enum: a row with its number and the comparisons made, not yet with the comparisons made, or a refusal."
-pub data Said : Type 0 where
-  row : (number comparisons : ℕ) → Said
-  notYet : (comparisons : ℕ) → Said
-  refused : (number column : ℕ) → Said
+pub data RowSaid : Type 0 where
+  row : (number comparisons : ℕ) → RowSaid
+  notYet : (comparisons : ℕ) → RowSaid
+  refused : (number column : ℕ) → RowSaid
 
-abbrev pub saidOf : Answer → Said
-saidOf (Row number comparisons) = row number comparisons
-saidOf (NotYet comparisons) = notYet comparisons
-saidOf (Refused number column) = refused number column
+abbrev pub rowSaidOf : Answer → RowSaid
+rowSaidOf (Row number comparisons) = row number comparisons
+rowSaidOf (NotYet comparisons) = notYet comparisons
+rowSaidOf (Refused number column) = refused number column
 
 -- step t of a plan with look-ahead D: its row t - D if that is due
-abbrev pub saidAt : Bool → ℕ → ℕ → Said
-saidAt due number comparisons = cond due (row number comparisons) (notYet comparisons)
+abbrev pub rowSaidAt : Bool → ℕ → ℕ → RowSaid
+rowSaidAt due number comparisons = cond due (row number comparisons) (notYet comparisons)
 
 -- ---- an accepted step
 
@@ -47,7 +46,7 @@ module _ {A : Type 0} (K : Samples A) where
   -- plan applied to the whole picture (condition 2).
   pub record Advanced (S : State) (M : Memory A) (pixels out : List A) (M′ : Memory A) (out′ : List A) (answer : Answer) (S′ : State) : Type 0 where
     pub comparisons : ℕ
-    pub said : saidOf answer ≡ saidAt (leb (planAhead (S .plan)) (S .step)) (S .step - planAhead (S .plan)) comparisons
+    pub said : rowSaidOf answer ≡ rowSaidAt (leb (planAhead (S .plan)) (S .step)) (S .step - planAhead (S .plan)) comparisons
     pub state : S′ ≡ nextState S
     pub values-long : length (M′ .values) ≡ length (M .values)
     pub positions-long : length (M′ .positions) ≡ length (M .positions)
@@ -65,20 +64,15 @@ module _ {A : Type 0} (K : Samples A) where
   -- ---- a refused call: "Every refusal returns its number (8 its column too) and the state as given, and writes nothing"
 
   pub record Unchanged (number column : ℕ) (S : State) (M : Memory A) (out : List A) (M′ : Memory A) (out′ : List A) (answer : Answer) (S′ : State) : Type 0 where
-    pub said : saidOf answer ≡ refused number column
+    pub said : rowSaidOf answer ≡ refused number column
     pub state : S′ ≡ S
     pub memory : M′ ≡ M
     pub output : out′ ≡ out
 
-  -- "8 | a pixel is not finite; the first such column is named"
-  abbrev pub firstBad : List A → ℕ
-  firstBad [] = 0
-  firstBad (a ∷ l) = cond (K .good a) (suc (firstBad l)) 0
-
-  -- .. where 8 is the number: nothing that is judged before it is wrong
+  -- "8 | a pixel is not finite; the first such column is named", where 8 is the number: nothing that is judged before it is wrong
   abbrev pub columnOf : ℕ → State → Memory A → List A → List A → ℕ
   columnOf kind S M pixels out =
-      cond (eqb (offerNumber kind S (length pixels) (length out) (length (M .values)) (length (M .positions)) (M .starts) (M .lengths)) 0) (firstBad pixels) 0
+      cond (eqb (offerNumber kind S (length pixels) (length out) (length (M .values)) (length (M .positions)) (M .starts) (M .lengths)) 0) (firstBad K pixels) 0
 
   -- ---- the two steps, for samples of that kind
 

@@ -5,7 +5,7 @@ ghost use Prim.Native.Nat.{_≤_, min};
 ghost use lib.ListN.{length};
 ghost use Rattle.plan_record.specs.Plan.{planOf, stagesFrom, recordsNeeded};
 ghost use Rattle.picture_state.specs.Numbers.{startNumber};
-ghost use Rattle.picture_state.specs.Start.{Start, firstState, noState, cleared, numbersNumber};
+ghost use Rattle.picture_state.specs.Start.{PictureStart, firstState, noState, cleared, numbersNumber};
 use crate::Started;
 use crate::State;
 use crate::judging::judge_memory;
@@ -50,11 +50,13 @@ fn clear(n: usize, bytes: &mut [u8])
     }
 }
 
+// The state before the first step. It keeps the plan's stages alone: what the other places of the record held is not handed on.
 fn first_state(plan: Plan, sample: u8, width: usize, rows: usize) -> State
+    requires { ⌜ plan .count ≤ 16 ⌝ }
     ensures { λ r. ⌜ r ≡ firstState plan sample width rows ⌝ }
 {
     State {
-        plan: plan,
+        plan: plan_record::trimmed(plan),
         sample: sample,
         width: width,
         rows: rows,
@@ -83,7 +85,7 @@ pub fn start(
     starts: &mut [u8],
     lengths: &mut [u8],
 ) -> Started
-    ensures { λ r. ⌜ Start (startNumber plan sample width rows cells (min (length (now (starts .entry))) (length (now (lengths .entry))))) (firstState plan sample width rows) (recordsNeeded plan width) (now (starts .entry)) (now (lengths .entry)) (now (starts .exit)) (now (lengths .exit)) r ⌝ }
+    ensures { λ r. ⌜ PictureStart (startNumber plan sample width rows cells (min (length (now (starts .entry))) (length (now (lengths .entry))))) (firstState plan sample width rows) (recordsNeeded plan width) (now (starts .entry)) (now (lengths .entry)) (now (starts .exit)) (now (lengths .exit)) r ⌝ }
 {
     let lent = shorter(starts.len(), lengths.len());
     let number = judge_start(plan, sample, width, rows, cells, lent);
@@ -110,7 +112,7 @@ pub fn start_numbers(
     starts: &mut [u8],
     lengths: &mut [u8],
 ) -> Started
-    ensures { λ r. ⌜ Start (numbersNumber count (now (stages .entry)) sample width rows cells (min (length (now (starts .entry))) (length (now (lengths .entry))))) (firstState (planOf (stagesFrom count (now (stages .entry)))) sample width rows) (recordsNeeded (planOf (stagesFrom count (now (stages .entry)))) width) (now (starts .entry)) (now (lengths .entry)) (now (starts .exit)) (now (lengths .exit)) r ⌝ }
+    ensures { λ r. ⌜ PictureStart (numbersNumber count (now (stages .entry)) sample width rows cells (min (length (now (starts .entry))) (length (now (lengths .entry))))) (firstState (planOf (stagesFrom count (now (stages .entry)))) sample width rows) (recordsNeeded (planOf (stagesFrom count (now (stages .entry)))) width) (now (starts .entry)) (now (lengths .entry)) (now (starts .exit)) (now (lengths .exit)) r ⌝ }
 {
     let reading = plan_read::read(count, stages);
     let number = reading.number;

@@ -4,7 +4,7 @@ ghost use mathlib.Core.Path.{_≡_};
 ghost use Prim.Native.Nat.{_≤_, min};
 ghost use lib.ListN.{length};
 ghost use Rattle.plan_record.specs.Plan.{used, recordNumber, recordsNeeded};
-ghost use Rattle.chain.specs.Run.{allSound};
+ghost use Rattle.memory.specs.Memory.{allSound};
 ghost use Rattle.picture_state.specs.Numbers.{memoryNumber, stateNumber, sharedNumber, offerNumber, drainNumber};
 use crate::State;
 use plan_record::Plan;

@@ -4,7 +4,7 @@
 ghost use mathlib.Core.Path.{_≡_};
 ghost use Prim.Native.Nat.{_<_};
 ghost use lib.ListN.{length};
-ghost use Rattle.picture_state.specs.Step.{saidOf, row, notYet, refused, nextState};
+ghost use Rattle.picture_state.specs.Step.{rowSaidOf, row, notYet, refused, nextState};
 use plan_record::Plan;
 
 mod begin; // begin.rt: starting a run
@@ -60,7 +60,7 @@ pub fn moved(state: State) -> State
 }
 
 pub fn came(state: State, number: usize, comparisons: usize) -> Stepped
-    ensures { λ r. ⌜ (saidOf (r .answer) ≡ row number comparisons) × (r .state ≡ state) ⌝ }
+    ensures { λ r. ⌜ (rowSaidOf (r .answer) ≡ row number comparisons) × (r .state ≡ state) ⌝ }
 {
     Stepped {
         answer: Answer::Row {
@@ -72,7 +72,7 @@ pub fn came(state: State, number: usize, comparisons: usize) -> Stepped
 }
 
 pub fn waits(state: State, comparisons: usize) -> Stepped
-    ensures { λ r. ⌜ (saidOf (r .answer) ≡ notYet comparisons) × (r .state ≡ state) ⌝ }
+    ensures { λ r. ⌜ (rowSaidOf (r .answer) ≡ notYet comparisons) × (r .state ≡ state) ⌝ }
 {
     Stepped {
         answer: Answer::NotYet {
@@ -83,7 +83,7 @@ pub fn waits(state: State, comparisons: usize) -> Stepped
 }
 
 pub fn refuses(state: State, number: u8, column: usize) -> Stepped
-    ensures { λ r. ⌜ (saidOf (r .answer) ≡ refused number column) × (r .state ≡ state) ⌝ }
+    ensures { λ r. ⌜ (rowSaidOf (r .answer) ≡ refused number column) × (r .state ≡ state) ⌝ }
 {
     Stepped {
         answer: Answer::Refused {

@@ -1,8 +1,11 @@
 // The named plans: opening, closing, and the alternate sequential filter.
 
 ghost use mathlib.Core.Path.{_≡_};
+ghost use mathlib.Core.List.{[], _∷_};
 ghost use Prim.Native.Nat.{_≤_};
-ghost use Rattle.plan_record.specs.Plan.{planOf, addedAll, sequenceStages, extentNumber, orderNumber, answered, pairStages, openingStages, closingStages, withExtents, alternatingStages};
+ghost use Rattle.morph.specs.Numbers.{extentNumber};
+ghost use Rattle.plan_record.specs.Plan.{planOf, sequenceStages, orderNumber, readingOf, pairStages, openingStages, closingStages, withExtents, alternatingStages};
+ghost use Rattle.plan_record.specs.Inner.{addedAll};
 use morph::Kind;
 use plan_record::Plan;
 use plan_record::Reading;
@@ -26,7 +29,7 @@ fn with_extents(kind: Kind, left: u8, right: u8, up: u8, down: u8) -> Stage
 
 // The plan of two stages of one rectangle: refused 3.
 fn pair(first: Kind, second: Kind, left: u8, right: u8, up: u8, down: u8) -> Reading
-    ensures { λ r. ⌜ r ≡ answered (extentNumber left right up down) (planOf (pairStages first second left right up down)) ⌝ }
+    ensures { λ r. ⌜ r ≡ readingOf (extentNumber (left ∷ right ∷ up ∷ down ∷ [])) (planOf (pairStages first second left right up down)) ⌝ }
 {
     let number = judge_extents(left, right, up, down);
     if number != 0 {
@@ -41,14 +44,14 @@ fn pair(first: Kind, second: Kind, left: u8, right: u8, up: u8, down: u8) -> Rea
 
 // The plan of an opening: refused 3.
 pub fn opening(left: u8, right: u8, up: u8, down: u8) -> Reading
-    ensures { λ r. ⌜ r ≡ answered (extentNumber left right up down) (planOf (openingStages left right up down)) ⌝ }
+    ensures { λ r. ⌜ r ≡ readingOf (extentNumber (left ∷ right ∷ up ∷ down ∷ [])) (planOf (openingStages left right up down)) ⌝ }
 {
     pair(Kind::Erosion, Kind::Dilation, left, right, up, down)
 }
 
 // The plan of a closing: refused 3.
 pub fn closing(left: u8, right: u8, up: u8, down: u8) -> Reading
-    ensures { λ r. ⌜ r ≡ answered (extentNumber left right up down) (planOf (closingStages left right up down)) ⌝ }
+    ensures { λ r. ⌜ r ≡ readingOf (extentNumber (left ∷ right ∷ up ∷ down ∷ [])) (planOf (closingStages left right up down)) ⌝ }
 {
     pair(Kind::Dilation, Kind::Erosion, left, right, up, down)
 }
@@ -65,7 +68,7 @@ fn add_sequence(plan: Plan, extent: u8) -> Plan
 
 // The plan of the alternate sequential filter of that order: refused 17.
 pub fn alternating(order: u8) -> Reading
-    ensures { λ r. ⌜ r ≡ answered (orderNumber order) (planOf (alternatingStages order)) ⌝ }
+    ensures { λ r. ⌜ r ≡ readingOf (orderNumber order) (planOf (alternatingStages order)) ⌝ }
 {
     if order == 0 {
         return refused(17);

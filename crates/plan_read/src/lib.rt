@@ -2,7 +2,8 @@
 
 ghost use mathlib.Core.Path.{_≡_};
 ghost use Prim.Native.Nat.{_≤_};
-ghost use Rattle.plan_record.specs.Plan.{planOf, kindFrom, stageFrom, stageNumber, stagesFrom, stagesNumber, planRead};
+ghost use Rattle.morph.specs.Order.{kindOf};
+ghost use Rattle.plan_record.specs.Plan.{planOf, stageFrom, stageNumber, stagesFrom, stagesNumber, planRead};
 use morph::Kind;
 use morph::wide;
 use plan_record::Plan;
@@ -15,7 +16,7 @@ use plan_record::judge_extents;
 use plan_record::refused;
 
 fn kind_from(n: u8) -> Kind
-    ensures { λ r. ⌜ r ≡ kindFrom n ⌝ }
+    ensures { λ r. ⌜ r ≡ kindOf n ⌝ }
 {
     if n == 0 {
         return Kind::Erosion;

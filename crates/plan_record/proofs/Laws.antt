@@ -7,15 +7,17 @@ use native.Mathlib.Numerals.{add-one}
 use native.Mathlib.Omega.{arith}
 use borrow.Author.Tests.{eq-eqb, ne-eqb}
 use lib.ListN.{length, getD, take, set, replicate, length-append}
-use lib.Seq.{set-append-seam, take-append-seam}
+use lib.Seq.{set-append-seam, take-append-seam, take-suc, length-take-le}
 use Rattle.morph.proofs.Lists.{length-tabulate, tabulate-snoc}
+use Rattle.morph.specs.Numbers.{firstOf}
+use Rattle.morph.proofs.Numbers.{first-one, first-skip, first-zero, skip, found}
 use Rattle.plan_record.specs.declared.Stage.{Stage}
 use Rattle.plan_record.specs.declared.Plan.{Plan}
 use Rattle.plan_record.specs.declared.Reading.{Reading}
 use Rattle.plan_record.specs.declared.Need.{Need}
-use Rattle.plan_record.specs.Plan.{unused, planOf, used, added, addedAll, total, answered, cellsNeeded, recordsNeeded, planAhead, countNumber, recordNumber, noNeeds, needsNumber, needsOf, stageFrom, stagesFrom, stagesNumber, planNumber, planRead, sequenceStages, alternatingStages}
-use Rattle.plan_record.specs.Numbers.{firstOf, sizeNumber}
-use Rattle.plan_record.proofs.Numbers.{first-one, first-skip, first-found, first-zero}
+use Rattle.plan_record.specs.Plan.{unused, planOf, used, total, readingOf, cellsNeeded, recordsNeeded, planAhead, countNumber, recordNumber, noNeeds, needsNumber, needsOf, stageFrom, stagesFrom, stagesNumber, planNumber, planRead, sequenceStages, alternatingStages}
+use Rattle.plan_record.specs.Inner.{added, addedAll}
+use Rattle.plan_record.specs.Numbers.{sizeNumber}
 
 -- ---- a stage more
 
@@ -49,6 +51,12 @@ module _ {r p : Plan} where
       let more : stagesFrom (i + 1) bytes ≡ stagesFrom i bytes ++ (stageFrom bytes (i * 5) ∷ []) = rw (add-one i) (tabulate-snoc i (λ k. stageFrom bytes (k * 5))) in
       added-by e f g ∙ added-plan (stagesFrom i bytes) (stageFrom bytes (i * 5)) (omega arith) ∙ ap planOf (sym more)
 
+  pub used-more : (ss : List Stage) (i : ℕ) (d : Stage) {s : Stage} → i < 16 → i < length ss → r ≡ added p s → p ≡ planOf (take i ss) → s ≡ getD ss i d → r ≡ planOf (take (i + 1) ss)
+  used-more ss i d h k e f g =
+      let l : length (take i ss) ≡ i = length-take-le i ss (omega arith) in
+      let more : take (i + 1) ss ≡ take i ss ++ (getD ss i d ∷ []) = rw (add-one i) (take-suc ss i d k) in
+      added-by e f g ∙ added-plan (take i ss) (getD ss i d) (omega arith) ∙ ap planOf (sym more)
+
   pub sequence-more : (i : ℕ) → i < 4 → r ≡ addedAll p (sequenceStages (i + 1)) → p ≡ planOf (alternatingStages i) → (r ≡ planOf (alternatingStages (i + 1))) × (r .count ≡ 4 * (i + 1))
   unfolding alternatingStages
   sequence-more i h e f =
@@ -77,19 +85,19 @@ total-most f b (s ∷ ss) h = omega (arith, total-most f b ss h, h s)
 
 -- ---- answers
 
-pub refused-answer : {r : Reading} {n m : ℕ} (plan : Plan) → r ≡ record { number = n; plan = planOf [] } → n ≡ m → (n ≡ 0 → ⊥) → r ≡ answered m plan
+pub refused-answer : {r : Reading} {n m : ℕ} (plan : Plan) → r ≡ record { number = n; plan = planOf [] } → n ≡ m → (n ≡ 0 → ⊥) → r ≡ readingOf m plan
 refused-answer {r} {n} {m} plan e q h = e ∙ (let f = ne-eqb n 0 h in cc)
 
-pub accepted-answer : {n m : ℕ} {p : Plan} (plan : Plan) → n ≡ m → n ≡ 0 → p ≡ plan → record { number = 0; plan = p } ≡ answered m plan
+pub accepted-answer : {n m : ℕ} {p : Plan} (plan : Plan) → n ≡ m → n ≡ 0 → p ≡ plan → record { number = 0; plan = p } ≡ readingOf m plan
 accepted-answer {n} {m} {p} plan q e h = let f = eq-eqb n 0 e in cc
 
 -- ---- the count's rule, and then m
 
 pub count-refused : (count m : ℕ) {r : ℕ} → r ≡ countNumber count → (r ≡ 0 → ⊥) → r ≡ firstOf (countNumber count ∷ m ∷ [])
-count-refused count m e h = e ∙ sym (first-found (countNumber count) (m ∷ []) (λ z. h (e ∙ z)))
+count-refused count m e h = found (countNumber count) (m ∷ []) e h
 
 pub count-accepted : (count m : ℕ) {q r : ℕ} → q ≡ countNumber count → q ≡ 0 → r ≡ m → r ≡ firstOf (countNumber count ∷ m ∷ [])
-count-accepted count m e z h = h ∙ sym (first-skip (countNumber count) (m ∷ []) (sym e ∙ z) ∙ first-one m)
+count-accepted count m e z h = skip (countNumber count) (m ∷ []) (sym e ∙ z) (h ∙ sym (first-one m))
 
 pub count-zero : (count m : ℕ) → firstOf (countNumber count ∷ m ∷ []) ≡ 0 → (countNumber count ≡ 0) × (m ≡ 0)
 count-zero count m e = let z = first-zero (countNumber count) (m ∷ []) e in (z .0, sym (first-one m) ∙ z .1)
@@ -121,13 +129,13 @@ module _ (plan : Plan) (width : ℕ) {p : ℕ} (e : p ≡ recordNumber plan) whe
   pub needs-plan : {r : Need} → (p ≡ 0 → ⊥) → r ≡ noNeeds p → r ≡ needsOf plan width
   unfolding needsOf needsNumber
   needs-plan h f =
-      let q : p ≡ needsNumber plan width = e ∙ sym (first-found (recordNumber plan) (sizeNumber width 1 ∷ []) (λ z. h (e ∙ z))) in
+      let q : p ≡ needsNumber plan width = found (recordNumber plan) (sizeNumber width 1 ∷ []) e h in
       f ∙ (let g = ne-eqb p 0 h in cc)
 
   pub needs-width : {q : ℕ} {r : Need} → p ≡ 0 → q ≡ sizeNumber width 1 → (q ≡ 0 → ⊥) → r ≡ noNeeds q → r ≡ needsOf plan width
   unfolding needsOf needsNumber
   needs-width {q} z s h f =
-      let n : q ≡ needsNumber plan width = s ∙ sym (first-skip (recordNumber plan) (sizeNumber width 1 ∷ []) (sym e ∙ z) ∙ first-one (sizeNumber width 1)) in
+      let n : q ≡ needsNumber plan width = skip (recordNumber plan) (sizeNumber width 1 ∷ []) (sym e ∙ z) (s ∙ sym (first-one (sizeNumber width 1))) in
       f ∙ (let g = ne-eqb q 0 h in cc)
 
   pub needs-all : {q c n a : ℕ} → p ≡ 0 → q ≡ sizeNumber width 1 → q ≡ 0 → c ≡ cellsNeeded plan width → n ≡ recordsNeeded plan width → a ≡ planAhead plan → record { number = 0; cells = c; records = n; ahead = a } ≡ needsOf plan width

@@ -1,48 +1,35 @@
 -- What the records mean to the definitions of a picture: the named plans are morph's, the look-ahead is morph's, and an accepted plan is one
 -- that is judged 0.
 use mathlib.Core.Path.{_≡_, refl, sym, ap, _∙_}
-use mathlib.Core.Bool.{_||_}
 use mathlib.Core.List.{List, [], _∷_, _++_, map, append-assoc}
 use Prim.Native.Nat.{ℕ, zero, suc, _-_, _*_, _≤_, _<_}
 use native.Mathlib.Omega.{arith}
-use borrow.Author.Tests.{ltb-false, eqb-false, le-ltb, eq-eqb, ne-eqb}
-use lib.Dec.{ltb, eqb}
+use borrow.Author.Tests.{le-ltb, eq-eqb, ne-eqb}
 use lib.ListN.{length, getD, replicate, List·getD-append}
+use lib.Seq.{getD-take, length-take-le}
 use Rattle.morph.specs.declared.Kind.{Kind}
 use Rattle.morph.specs.declared.Kind.the-variants.{Erosion, Dilation}
 use Rattle.morph.specs.Order.{Order}
 use Rattle.morph.specs.Picture.{Stage as Filter, lookAhead, opening, closing, alternating}
-use Rattle.morph.proofs.Lists.{neither, length-tabulate, getD-tabulate}
+use Rattle.morph.proofs.Lists.{length-tabulate, getD-tabulate}
+use Rattle.morph.proofs.Numbers.{first-one, first-zero, all-zero, none-refused, given-zero, inside, extents-fit}
+use Rattle.morph.specs.Numbers.{outside, kindNumber, extentNumber}
 use Rattle.plan_record.specs.declared.Stage.{Stage}
 use Rattle.plan_record.specs.declared.Plan.{Plan}
 use Rattle.plan_record.specs.declared.Reading.{Reading}
-use Rattle.plan_record.specs.Plan.{unused, planOf, used, Small, filterOf, stagesOf, belowOf, total, planAhead, countNumber, extentNumber, orderNumber, kindNumber, recordStageNumber, recordStagesNumber, recordNumber, stageNumber, stageFrom, stagesFrom, stagesNumber, planNumber, answered, pairStages, openingStages, closingStages, sequenceStages, alternatingStages}
-use Rattle.plan_record.proofs.Numbers.{first-one, first-zero, all-zero, none-refused, given-zero}
+use Rattle.plan_record.specs.Plan.{unused, planOf, used, filterOf, stagesOf, belowOf, total, planAhead, countNumber, orderNumber, recordStageNumber, recordStagesNumber, recordNumber, stageNumber, stageFrom, stagesFrom, stagesNumber, planNumber, readingOf, pairStages, openingStages, closingStages, sequenceStages, alternatingStages}
+use Rattle.plan_record.specs.Inner.{Small}
 use Rattle.plan_record.proofs.Laws.{used-plan, count-accepted, count-zero}
 
 -- ---- what an accepted plan has
 
 pub small : (s : Stage) → recordStageNumber s ≡ 0 → Small s
 small s h =
-    let l = ltb 31 (s .left) in
-    let r = ltb 31 (s .right) in
-    let u = ltb 31 (s .up) in
-    let d = ltb 31 (s .down) in
-    let p = neither (l || r || u) d (given-zero 2 (l || r || u || d) h) in
-    let q = neither (l || r) u (p .0) in
-    let t = neither l r (q .0) in
-    record {
-      left = ltb-false 31 (s .left) (t .0);
-      right = ltb-false 31 (s .right) (t .1);
-      up = ltb-false 31 (s .up) (q .1);
-      down = ltb-false 31 (s .down) (p .1);
-    }
+    let e = extents-fit (s .left ∷ s .right ∷ s .up ∷ s .down ∷ []) (given-zero 2 _ h) in
+    record { left = e .0; right = e .1 .0; up = e .1 .1 .0; down = e .1 .1 .1 .0 }
 
 pub counted : (count : ℕ) → countNumber count ≡ 0 → (1 ≤ count) × (count ≤ 16)
-counted count h =
-    let p = neither (eqb count 0) (ltb 16 count) (given-zero 0 (eqb count 0 || ltb 16 count) h) in
-    let n = eqb-false count 0 (p .0) in
-    (omega (arith, n), ltb-false 16 count (p .1))
+counted count h = inside 16 count (given-zero 0 (outside 16 count) h)
 
 pub judged-count : (plan : Plan) → recordNumber plan ≡ 0 → (1 ≤ plan .count) × (plan .count ≤ 16)
 unfolding recordNumber
@@ -104,6 +91,18 @@ module _ (ss : List Stage) (few : length ss ≤ 16) (some : 1 ≤ length ss) (ea
       let all : recordStagesNumber (planOf ss) ≡ 0 = none-refused (length ss) (λ i. recordStageNumber (getD (ss ++ replicate (16 - length ss) unused) i unused)) (λ i k. ap recordStageNumber (List·getD-append ss (replicate (16 - length ss) unused) unused i k) ∙ each i k) in
       sym (count-accepted (length ss) (recordStagesNumber (planOf ss)) some refl (sym all))
 
+-- a plan that is judged 0 is so with its unused places cleared
+pub judged-used : (plan : Plan) → plan .count ≤ length (plan .stages) → recordNumber plan ≡ 0 → recordNumber (planOf (used plan)) ≡ 0
+unfolding recordNumber recordStagesNumber
+judged-used plan long h =
+    let z = count-zero (plan .count) (recordStagesNumber plan) h in
+    let n = counted (plan .count) (z .0) in
+    let l : length (used plan) ≡ plan .count = length-take-le (plan .count) (plan .stages) long in
+    judged-plan (used plan) (omega arith) (omega arith)
+    (λ i k.
+    let m : i < plan .count = omega arith in
+    ap recordStageNumber (getD-take (plan .count) (plan .stages) i unused m) ∙ all-zero (plan .count) (λ i. recordStageNumber (getD (plan .stages) i unused)) (z .1) i m)
+
 pub judged-reading : (count : ℕ) (bytes : List ℕ) → planNumber count bytes ≡ 0 → recordNumber (planOf (stagesFrom count bytes)) ≡ 0
 unfolding planNumber stagesFrom stagesNumber
 judged-reading count bytes h =
@@ -118,12 +117,12 @@ judged-reading count bytes h =
 
 -- ---- the named plans, said of their calls' promises
 
-accepted-plan : {r : Reading} (n : ℕ) (plan : Plan) → r ≡ answered n plan → r .number ≡ 0 → (r .plan ≡ plan) × (n ≡ 0)
+accepted-plan : {r : Reading} (n : ℕ) (plan : Plan) → r ≡ readingOf n plan → r .number ≡ 0 → (r .plan ≡ plan) × (n ≡ 0)
 accepted-plan n plan e z =
     let m : n ≡ 0 = sym (ap (λ r. r .number) e) ∙ z in
     (ap (λ r. r .plan) e ∙ simp (eq-eqb n 0 m), m)
 
-each-of-two : (first second : Kind) (a b c d : ℕ) → extentNumber a b c d ≡ 0 → recordNumber (planOf (pairStages first second a b c d)) ≡ 0
+each-of-two : (first second : Kind) (a b c d : ℕ) → extentNumber (a ∷ b ∷ c ∷ d ∷ []) ≡ 0 → recordNumber (planOf (pairStages first second a b c d)) ≡ 0
 each-of-two first second a b c d e = judged-plan (pairStages first second a b c d) (omega arith) (omega arith) each
   where
     each : (i : ℕ) → i < 2 → recordStageNumber (getD (pairStages first second a b c d) i unused) ≡ 0
@@ -138,7 +137,7 @@ ordered (suc zero) e = refl
 ordered (suc (suc zero)) e = refl
 ordered (suc (suc (suc zero))) e = refl
 ordered (suc (suc (suc (suc zero)))) e = refl
-ordered (suc (suc (suc (suc (suc n))))) e = absurd (let p = neither (eqb (suc (suc (suc (suc (suc n))))) 0) (ltb 4 (suc (suc (suc (suc (suc n)))))) (given-zero 16 _ e) in omega (arith, ltb-false 4 (suc (suc (suc (suc (suc n))))) (p .1)))
+ordered (suc (suc (suc (suc (suc n))))) e = absurd (let (_, m) = inside 4 (suc (suc (suc (suc (suc n))))) (given-zero 16 _ e) in omega arith)
 
 -- An accepted answer is a plan that is judged 0, and in every order it goes through the stages that the name means.
 pub record Means (r : Reading) (named : (A : Type 0) → Order A → List (Filter A)) : Type 1 where
@@ -146,17 +145,17 @@ pub record Means (r : Reading) (named : (A : Type 0) → Order A → List (Filte
   pub stages : (A : Type 0) (O : Order A) → stagesOf O (r .plan) ≡ named A O
 
 module _ {r : Reading} (accepted : r .number ≡ 0) where
-  pub opening-means : (a b c d : ℕ) → r ≡ answered (extentNumber a b c d) (planOf (openingStages a b c d)) → Means r (λ A O. opening O a b c d)
+  pub opening-means : (a b c d : ℕ) → r ≡ readingOf (extentNumber (a ∷ b ∷ c ∷ d ∷ [])) (planOf (openingStages a b c d)) → Means r (λ A O. opening O a b c d)
   opening-means a b c d e =
-      let p = accepted-plan (extentNumber a b c d) (planOf (openingStages a b c d)) e accepted in
+      let p = accepted-plan (extentNumber (a ∷ b ∷ c ∷ d ∷ [])) (planOf (openingStages a b c d)) e accepted in
       record { judged = ap recordNumber (p .0) ∙ each-of-two Erosion Dilation a b c d (p .1); stages = λ A O. ap (stagesOf O) (p .0) ∙ opening-stages O a b c d }
 
-  pub closing-means : (a b c d : ℕ) → r ≡ answered (extentNumber a b c d) (planOf (closingStages a b c d)) → Means r (λ A O. closing O a b c d)
+  pub closing-means : (a b c d : ℕ) → r ≡ readingOf (extentNumber (a ∷ b ∷ c ∷ d ∷ [])) (planOf (closingStages a b c d)) → Means r (λ A O. closing O a b c d)
   closing-means a b c d e =
-      let p = accepted-plan (extentNumber a b c d) (planOf (closingStages a b c d)) e accepted in
+      let p = accepted-plan (extentNumber (a ∷ b ∷ c ∷ d ∷ [])) (planOf (closingStages a b c d)) e accepted in
       record { judged = ap recordNumber (p .0) ∙ each-of-two Dilation Erosion a b c d (p .1); stages = λ A O. ap (stagesOf O) (p .0) ∙ closing-stages O a b c d }
 
-  pub alternating-means : (n : ℕ) → r ≡ answered (orderNumber n) (planOf (alternatingStages n)) → Means r (λ A O. alternating O n)
+  pub alternating-means : (n : ℕ) → r ≡ readingOf (orderNumber n) (planOf (alternatingStages n)) → Means r (λ A O. alternating O n)
   alternating-means n e =
       let p = accepted-plan (orderNumber n) (planOf (alternatingStages n)) e accepted in
       record { judged = ap recordNumber (p .0) ∙ ordered n (p .1); stages = λ A O. ap (stagesOf O) (p .0) ∙ alternating-stages O n }

@@ -1,19 +1,20 @@
 -- The stage and plan records: what they mean, what they need, and the numbers that judge them.
-use mathlib.Core.Bool.{cond, _||_}
+use mathlib.Core.Bool.{cond}
 use mathlib.Core.List.{List, [], _∷_, _++_, map}
-use Prim.Native.Nat.{ℕ, zero, suc, _+_, _-_, _*_, _≤_}
-use lib.Dec.{eqb, ltb}
-use lib.ListN.{length, getD, take, set, replicate}
+use Prim.Native.Nat.{ℕ, zero, suc, _+_, _-_, _*_}
+use lib.Dec.{eqb}
+use lib.ListN.{length, getD, take, replicate}
 use Rattle.morph.specs.declared.Kind.{Kind}
 use Rattle.morph.specs.declared.Kind.the-variants.{Erosion, Dilation}
 use Rattle.morph.specs.Lists.{tabulate}
-use Rattle.morph.specs.Order.{Order, aheadOf}
+use Rattle.morph.specs.Order.{Order, kindOf, aheadOf}
 use Rattle.morph.specs.Picture.{Stage as Filter, stageOf}
+use Rattle.morph.specs.Numbers.{given, firstOf, outside, kindNumber, extentNumber}
 use Rattle.plan_record.specs.declared.Stage.{Stage}
 use Rattle.plan_record.specs.declared.Plan.{Plan}
 use Rattle.plan_record.specs.declared.Reading.{Reading}
 use Rattle.plan_record.specs.declared.Need.{Need}
-use Rattle.plan_record.specs.Numbers.{given, firstOf, sizeNumber}
+use Rattle.plan_record.specs.Numbers.{sizeNumber}
 
 -- ---- the records
 
@@ -28,21 +29,6 @@ planOf ss = record { count = length ss; stages = ss ++ replicate (16 - length ss
 -- the stages of a plan record: the first `count` places
 abbrev pub used : Plan → List Stage
 used plan = take (plan .count) (plan .stages)
-
--- "four extents, each 0 to 31"
-pub record Small (s : Stage) : Type 0 where
-  pub left : s .left ≤ 31
-  pub right : s .right ≤ 31
-  pub up : s .up ≤ 31
-  pub down : s .down ≤ 31
-
--- a plan record with one stage more, and with more of them
-abbrev pub added : Plan → Stage → Plan
-added plan s = record { count = plan .count + 1; stages = set (plan .stages) (plan .count) s }
-
-abbrev pub addedAll : Plan → List Stage → Plan
-addedAll plan [] = plan
-addedAll plan (s ∷ ss) = addedAll (added plan s) ss
 
 -- ---- what they mean
 
@@ -88,23 +74,15 @@ planAhead plan = total belowOf (used plan)
 
 -- "1 | stage count is 0 or over 16"
 abbrev pub countNumber : ℕ → ℕ
-countNumber count = given 1 (eqb count 0 || ltb 16 count)
-
--- "2 | a stage kind is not 0 (erosion) or 1 (dilation)"
-abbrev pub kindNumber : ℕ → ℕ
-kindNumber kind = given 2 (ltb 1 kind)
-
--- "3 | an extent is over 31"
-abbrev pub extentNumber : ℕ → ℕ → ℕ → ℕ → ℕ
-extentNumber left right up down = given 3 (ltb 31 left || ltb 31 right || ltb 31 up || ltb 31 down)
+countNumber count = given 1 (outside 16 count)
 
 -- "17 | filter order is 0 or over 4"
 abbrev pub orderNumber : ℕ → ℕ
-orderNumber order = given 17 (eqb order 0 || ltb 4 order)
+orderNumber order = given 17 (outside 4 order)
 
 -- of a plan record, whose kinds are an enum: 1; then stage by stage 3
 abbrev pub recordStageNumber : Stage → ℕ
-recordStageNumber s = extentNumber (s .left) (s .right) (s .up) (s .down)
+recordStageNumber s = extentNumber (s .left ∷ s .right ∷ s .up ∷ s .down ∷ [])
 
 unfoldable pub recordStagesNumber : Plan → ℕ
 recordStagesNumber plan = firstOf (tabulate (plan .count) (λ i. recordStageNumber (getD (plan .stages) i unused)))
@@ -129,16 +107,13 @@ needsOf plan width =
 -- ---- a plan from numbers
 
 -- "five bytes a stage: kind, left, right, up, down"; these stand from position `at` on
-abbrev pub kindFrom : ℕ → Kind
-kindFrom n = cond (eqb n 0) Erosion Dilation
-
 abbrev pub stageFrom : List ℕ → ℕ → Stage
 stageFrom bytes at =
-    record { kind = kindFrom (getD bytes at 0); left = getD bytes (at + 1) 0; right = getD bytes (at + 2) 0; up = getD bytes (at + 3) 0; down = getD bytes (at + 4) 0 }
+    record { kind = kindOf (getD bytes at 0); left = getD bytes (at + 1) 0; right = getD bytes (at + 2) 0; up = getD bytes (at + 3) 0; down = getD bytes (at + 4) 0 }
 
 abbrev pub stageNumber : List ℕ → ℕ → ℕ
 stageNumber bytes at =
-    firstOf (kindNumber (getD bytes at 0) ∷ extentNumber (getD bytes (at + 1) 0) (getD bytes (at + 2) 0) (getD bytes (at + 3) 0) (getD bytes (at + 4) 0) ∷ [])
+    firstOf (kindNumber (getD bytes at 0) ∷ extentNumber (getD bytes (at + 1) 0 ∷ getD bytes (at + 2) 0 ∷ getD bytes (at + 3) 0 ∷ getD bytes (at + 4) 0 ∷ []) ∷ [])
 
 -- the stages that the bytes say, and "stage by stage 2, 3"
 unfoldable pub stagesFrom : ℕ → List ℕ → List Stage
@@ -152,11 +127,11 @@ unfoldable pub planNumber : ℕ → List ℕ → ℕ
 planNumber count bytes = firstOf (countNumber count ∷ stagesNumber count bytes ∷ [])
 
 -- the answer: the number, and the plan where the number is 0. "a refused .. named plan or reading hands back all zeros, kind erosion"
-abbrev pub answered : ℕ → Plan → Reading
-answered number plan = record { number = number; plan = cond (eqb number 0) plan (planOf []) }
+abbrev pub readingOf : ℕ → Plan → Reading
+readingOf number plan = record { number = number; plan = cond (eqb number 0) plan (planOf []) }
 
 unfoldable pub planRead : ℕ → List ℕ → Reading
-planRead count bytes = answered (planNumber count bytes) (planOf (stagesFrom count bytes))
+planRead count bytes = readingOf (planNumber count bytes) (planOf (stagesFrom count bytes))
 
 -- ---- named plans
 

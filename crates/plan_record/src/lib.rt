@@ -1,9 +1,11 @@
 // Stage and plan records: judging them, and the memory and the look-ahead that a plan needs.
 ghost use mathlib.Core.Path.{_≡_};
-ghost use mathlib.Core.List.{[]};
+ghost use mathlib.Core.List.{[], _∷_};
 ghost use Prim.Native.Nat.{_+_, _≤_, _<_};
 ghost use Rattle.morph.specs.Order.{backOf, aheadOf};
-ghost use Rattle.plan_record.specs.Plan.{planOf, added, sizeOf, belowOf, cellsNeeded, recordsNeeded, planAhead, countNumber, extentNumber, recordNumber, noNeeds, needsOf};
+ghost use Rattle.morph.specs.Numbers.{extentNumber};
+ghost use Rattle.plan_record.specs.Plan.{planOf, used, sizeOf, belowOf, cellsNeeded, recordsNeeded, planAhead, countNumber, recordNumber, noNeeds, needsOf};
+ghost use Rattle.plan_record.specs.Inner.{added};
 use morph::Kind;
 use morph::wide;
 
@@ -60,6 +62,22 @@ pub fn add(plan: Plan, stage: Stage) -> Plan
     longer.stages[count] = stage;
     longer.count = count + 1;
     longer
+}
+
+// The plan of the same stages: the places after them hold zeros and the kind erosion, whatever they held.
+pub fn trimmed(plan: Plan) -> Plan
+    requires { ⌜ plan .count ≤ 16 ⌝ }
+    ensures { λ r. ⌜ r ≡ planOf (used plan) ⌝ }
+{
+    let count = plan.count;
+    let mut kept = empty();
+    let mut i = 0;
+    while i < count {
+        let stage = plan.stages[i];
+        kept = add(kept, stage);
+        i += 1;
+    }
+    kept
 }
 
 // The answer of a refused call.
@@ -189,7 +207,7 @@ pub fn judge_count(count: usize) -> u8
 
 // 0, or 3.
 pub fn judge_extents(left: u8, right: u8, up: u8, down: u8) -> u8
-    ensures { λ r. ⌜ r ≡ extentNumber left right up down ⌝ }
+    ensures { λ r. ⌜ r ≡ extentNumber (left ∷ right ∷ up ∷ down ∷ []) ⌝ }
 {
     if 31 < left {
         return 3;

@@ -9,10 +9,10 @@ use lib.Dec.{eqb}
 use lib.ListN.{length, getD, take, drop, length-append, length-take, length-drop}
 use lib.Seq.{length-take-le}
 use Rattle.morph.proofs.Lists.{split}
+use Rattle.morph.proofs.Numbers.{first-one, first-skip}
 use Rattle.plan_record.specs.declared.Stage.{Stage}
 use Rattle.plan_record.specs.declared.Reading.{Reading}
 use Rattle.plan_record.specs.Plan.{planOf, countNumber, recordNumber, stagesFrom, stagesNumber, planNumber}
-use Rattle.plan_record.proofs.Numbers.{first-one, first-skip}
 use Rattle.plan_record.proofs.Named.{judged-reading}
 use Rattle.job_read.specs.Job.{planSectionNumber, planSection}
 use Rattle.job_read.proofs.Sections.{plan-there, plan-read, section-number}

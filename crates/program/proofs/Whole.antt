@@ -13,11 +13,11 @@ use Rattle.job_read.specs.declared.Head.{Head}
 use Rattle.job_read.specs.Layout.{widthFrom, rowsFrom}
 use Rattle.job_read.specs.Job.{headAnswered}
 use Rattle.job_read.proofs.Sections.{head-number, head-there}
-use Rattle.groups.specs.Groups.{imageNumber}
+use Rattle.groups.specs.Inner.{imageNumber}
 use Rattle.groups.proofs.Groups.{image-there}
 use Rattle.groups.proofs.Memory.{start-taken}
 use Rattle.course.specs.declared.Turn.{Turn}
-use Rattle.course.specs.Course.{Gone}
+use Rattle.course.specs.Inner.{Gone}
 
 pub head-known : (plan : Plan) (got : ℕ) (bytes : List ℕ) {head : Head} → head ≡ headAnswered (imageNumber plan got bytes) bytes → head .number ≡ 0 → head .sample ≤ 1
 head-known plan got bytes {head} e z =
@@ -36,5 +36,5 @@ start-known plan got bytes {head} l p e z =
     let r : head .rows ≡ rowsFrom bytes = ap (λ h. h .rows) e ∙ simp (eq-eqb m 0 n) in
     rw (s, w, r) (start-taken plan got bytes l p n)
 
-pub of-sample : {count : ℕ} {plan : Plan} {s sample width rows : ℕ} {T : Turn} → s ≡ sample → Gone count (firstState plan s width rows) T → Gone count (firstState plan sample width rows) T
-of-sample {count} {plan} {s} {sample} {width} {rows} {T} e g = subst (λ (k : ℕ). Gone count (firstState plan k width rows) T) e g
+pub of-sample : (plan : Plan) {count s sample width rows : ℕ} {T : Turn} → s ≡ sample → Gone count (firstState plan s width rows) T → Gone count (firstState plan sample width rows) T
+of-sample plan {count} {s} {sample} {width} {rows} {T} e g = subst (λ (k : ℕ). Gone count (firstState plan k width rows) T) e g

@@ -8,7 +8,7 @@ ghost use lib.ListN.{length};
 ghost use Rattle.plan_record.specs.Plan.{planAhead, recordNumber};
 ghost use Rattle.picture_state.specs.Numbers.{startNumber};
 ghost use Rattle.picture_state.specs.Start.{firstState};
-ghost use Rattle.course.specs.Course.{Gone, Over};
+ghost use Rattle.course.specs.Inner.{Gone, Over};
 use course::Course;
 use course::Turn;
 use job::Head;

@@ -13,14 +13,15 @@ use lib.ListN.{length, take, drop, getD, set, length-set}
 use lib.Seq.{getD-set-same, getD-set-other}
 use Rattle.morph.specs.Order.{Order}
 use Rattle.morph.specs.Line.{Entry, front}
-use Rattle.morph.specs.Step.{popped, roomed, stepped, stepCost}
+use Rattle.morph.specs.Inner.{popped, roomed, stepped, stepCost}
 use Rattle.morph.specs.Ring.{wrap, ring, cellAt, entries}
 use Rattle.morph.proofs.Lists.{split}
 use Rattle.morph.proofs.Step.{Popping, pop-start, pop-more, pop-stop, pop-end}
 use Rattle.morph.proofs.Ring.{wrap-low, wrap-lt, wrap-add, ring-length, ring-at, ring-take, ring-drop, ring-push}
 use Rattle.morph.specs.declared.Kind.{Kind}
 use Rattle.sample.specs.Samples.{Samples}
-use Rattle.queue.specs.Queue.{goesOf, listed, Roomed, Pushed}
+use Rattle.queue.specs.Queue.{listed}
+use Rattle.queue.specs.Inner.{goesOf, Roomed, Pushed}
 use Rattle.queue.specs.declared.Room.{Room}
 
 ruleset tests = (arith, leb-true, leb-false, eqb-true, eqb-false)

@@ -8,7 +8,7 @@ use Rattle.morph.specs.declared.Kind.{Kind}
 use Rattle.morph.specs.Order.{Order, orderOf}
 use Rattle.morph.specs.Lists.{Each}
 use Rattle.morph.specs.Line.{queue, lineCost}
-use Rattle.morph.specs.Step.{stepped, stepCost}
+use Rattle.morph.specs.Inner.{stepped, stepCost}
 use Rattle.morph.proofs.Lists.{each-in, each-getD}
 use Rattle.morph.proofs.Line.{queue-sound, cost-read}
 use Rattle.morph.proofs.Step.{step-read, step-cost}

@@ -6,7 +6,7 @@ ghost use mathlib.Core.Path.{_≡_};
 ghost use Prim.Native.Nat.{_+_, _-_, _≤_, _<_, min};
 ghost use lib.ListN.{length, getD};
 ghost use Rattle.morph.specs.Ring.{wrap};
-ghost use Rattle.queue.specs.Queue.{goesOf};
+ghost use Rattle.queue.specs.Inner.{goesOf};
 
 // How many entries a new value leaves unpassed, and the place behind them.
 pub struct Kept {

@@ -1,4 +1,4 @@
-// A plan of 3 stages over a picture of grey bytes, step by step with its queues, and calls out of turn. The output row is shown after every call: it stays as it was where no row came.
+// A plan of 3 stages over a picture of grey bytes, step by step with its queues, calls out of turn, and states and records that rule 12 refuses. The output row is shown after every call: it stays as it was where no row came.
 use picture::State;
 use picture::grey::ReadOut;
 
@@ -241,7 +241,44 @@ fn other_states() {
     drain(read(n, [1, 2, 3]));
 }
 
+// The run with another start of stage 0's column 1, which has 2 places.
+fn started_at(r: Greys, start: u8) -> Greys {
+    let mut next = r;
+    next.starts[1] = start;
+    next
+}
+
+// The run with another length of stage 1's column 1, whose window is 3.
+fn long(r: Greys, length: u8) -> Greys {
+    let mut next = r;
+    next.lengths[4] = length;
+    next
+}
+
+// The same picture without calls out of turn.
+fn in_turn(r: Greys) {
+    let r3 = read(read(read(r, [7, 2, 9]), [8, 0, 6]), [3, 5, 1]);
+    drain(drain(drain(r3)));
+}
+
+// Records of a state as it is handed out. Document 01 gives 12 where "a queue's start is not below its places, or its length over its window (c+d+1 for both in a column ..)":
+// here 2 and 4, and not 1 and 3. The order of a step is "12 for the column records, then 9 or 10", so a drain before all rows are read is refused 12 with the first and 10
+// with the second. "Every refusal returns .. the state as given, and writes nothing": what the refused calls hand back, with a start that is let in, gives the rows and
+// queues of the picture above. Stage 1 reads no row in the plan's first step, so its queue of length 3 stays the three cells that were lent.
+fn records() {
+    let r = begin(b"records of empty queues", 0, 21);
+    show::text(b"start 2 of 2 places\n");
+    let s = drain(read(started_at(r, 2), [7, 2, 9]));
+    show::text(b"start 1 of 2 places\n");
+    in_turn(drain(started_at(s, 1)));
+    show::text(b"length 4 in a window of 3\n");
+    let l = drain(read(long(r, 4), [7, 2, 9]));
+    show::text(b"length 3 in a window of 3\n");
+    read(drain(long(l, 3)), [7, 2, 9]);
+}
+
 fn main() {
     three_stages();
     other_states();
+    records();
 }

@@ -1,12 +1,13 @@
 -- The dark residue: what a row and a picture have, and what a call answers.
 use mathlib.Core.Path.{_≡_}
-use mathlib.Core.Bool.{Bool, false, cond, not, _||_}
-use mathlib.Core.List.{List, []}
-use Prim.Native.Nat.{ℕ, zero, suc, _-_}
+use mathlib.Core.Bool.{Bool, false, not, _||_}
+use mathlib.Core.List.{List, [], _∷_}
+use Prim.Native.Nat.{ℕ, zero, suc, _-_, _<_}
 use lib.Dec.{eqb, ltb}
 use lib.ListN.{length, getD}
 use Rattle.morph.specs.Lists.{sumTo}
 use Rattle.morph.specs.Picture.{Picture}
+use Rattle.morph.specs.Numbers.{given, firstOf, outside}
 use Rattle.residue.specs.declared.Residue.{Residue}
 use Rattle.residue.specs.declared.Residue.the-variants.{Sum, Refused}
 
@@ -33,20 +34,24 @@ negative closed input = someTo (length closed) (darker closed input)
 -- "Residue of a row: 4, 7, 16, the closed row first, its length the width."
 unfoldable pub residueNumber : List ℕ → List ℕ → ℕ
 residueNumber closed input =
-    cond (eqb (length closed) 0 || ltb 4096 (length closed)) 4
-    (cond (not (eqb (length input) (length closed))) 7
-    (cond (negative closed input) 16 0))
+    firstOf (given 4 (outside 4096 (length closed)) ∷ given 7 (not (eqb (length input) (length closed))) ∷ given 16 (negative closed input) ∷ [])
 
 -- document 01's number of each case of the answer, 0 where the sum is given
-abbrev pub numberOf : Residue → ℕ
-numberOf (Sum sum) = 0
-numberOf (Refused number) = number
+abbrev pub residueSaid : Residue → ℕ
+residueSaid (Sum sum) = 0
+residueSaid (Refused number) = number
 
 -- the answer of a number and a sum: a refusal where the number is not 0
-abbrev pub answerOf : ℕ → ℕ → Residue
-answerOf zero sum = Sum sum
-answerOf (suc n) sum = Refused (suc n)
+abbrev pub residueOf : ℕ → ℕ → Residue
+residueOf zero sum = Sum sum
+residueOf (suc n) sum = Refused (suc n)
 
 pub record Answered (closed input : List ℕ) (r : Residue) : Type 0 where
-  pub exact : r ≡ answerOf (residueNumber closed input) (rowResidue closed input)
-  pub number : numberOf r ≡ residueNumber closed input
+  pub exact : r ≡ residueOf (residueNumber closed input) (rowResidue closed input)
+  pub number : residueSaid r ≡ residueNumber closed input
+
+-- Two pictures of the same number of rows, of which no row is refused: `sums` are the sums that the rows are answered with, top to bottom.
+pub record RowsAnswered (closed input : Picture ℕ) (sums : List ℕ) : Type 0 where
+  pub same : length input ≡ length closed
+  pub rows : length sums ≡ length closed
+  pub each : (y : ℕ) → y < length closed → Answered (getD closed y []) (getD input y []) (Sum (getD sums y 0))

@@ -12,18 +12,19 @@ use lib.Seq.{take-suc, drop-cons, set-at, getD-append-add, getD-drop, take-all, 
 use Rattle.morph.specs.declared.Kind.{Kind}
 use Rattle.morph.specs.Order.{Order, orderOf}
 use Rattle.morph.specs.Line.{filterLine, bestAt, queue, front, lineCost, lineCosts}
-use Rattle.morph.specs.Step.{stepped, stepCost, roomed}
+use Rattle.morph.specs.Inner.{roomed, stepped, stepCost}
 use Rattle.morph.specs.Ring.{wrap}
 use Rattle.morph.proofs.Lists.{split}
 use Rattle.morph.proofs.Line.{queue-start, queue-some, length-line, line-at, output-front, cost-drain}
 use Rattle.morph.proofs.Ring.{wrap-add}
 use Rattle.morph.proofs.Step.{step-drain}
 use Rattle.sample.specs.Samples.{Samples}
-use Rattle.queue.specs.Queue.{listed, Roomed, goesOf}
+use Rattle.queue.specs.Queue.{listed}
+use Rattle.queue.specs.Inner.{goesOf, Roomed}
 use Rattle.queue.specs.declared.Room.{Room}
 use Rattle.queue.proofs.Steps.{next-queue, next-cost}
 use Rattle.queue.proofs.Laws.{listed-none, listed-length, listed-front, listed-ages, room-stored}
-use Rattle.row.specs.Row.{answered, Good, Read, Across, Drained}
+use Rattle.row.specs.Inner.{answerPut, Good, Read, Across, Drained}
 
 -- ---- the answers in their places
 
@@ -46,8 +47,8 @@ module _ {A : Type 0} (F R : List A) (e : length F ≡ length R) (ahead t : ℕ)
       let g = getD-append-add (take k F) (drop k R) (i - k) d in
       ap (λ j. getD (take k F ++ drop k R) j d) (sym s) ∙ g ∙ getD-drop k R (i - k) d ∙ ap (λ j. getD R j d) (omega arith)
 
-  answered-next : (d v : A) → t < length R + ahead → (ahead ≤ t → v ≡ getD F (t - ahead) d) → answered ahead t v (mixed (t - ahead)) ≡ mixed (t + 1 - ahead)
-  unfolding answered
+  answered-next : (d v : A) → t < length R + ahead → (ahead ≤ t → v ≡ getD F (t - ahead) d) → answerPut ahead t v (mixed (t - ahead)) ≡ mixed (t + 1 - ahead)
+  unfolding answerPut
   answered-next d v h p =
       split (leb ahead t)
       (λ b. let l = leb-true ahead t b in let s : t + 1 - ahead ≡ suc (t - ahead) = omega arith in rw (b, s) (mixed-next (t - ahead) d v (omega arith) (p l)))
@@ -106,14 +107,14 @@ module _ {A : Type 0} (K : Samples A) (kind : Kind) (back ahead : ℕ) (row : Li
     -- the row after step t, whose answer is x
     row-next : (x : A) (vs′ : List A) (ps′ : List ℕ) (start′ count′ : ℕ) → Good K kind back ahead row → t < length row + ahead → start′ < length vs′
         → listed K vs′ ps′ start′ count′ ≡ queue O w row (suc t) → x ≡ getD vs′ start′ (K .order .blank)
-        → answered ahead t x row′ ≡ take (t + 1 - ahead) (filterLine O back ahead row) ++ drop (t + 1 - ahead) row
+        → answerPut ahead t x row′ ≡ take (t + 1 - ahead) (filterLine O back ahead row) ++ drop (t + 1 - ahead) row
     unfolding mixed
     row-next x vs′ ps′ start′ count′ g l s q e =
-        ap (answered ahead t x) (h .written g)
+        ap (answerPut ahead t x) (h .written g)
         ∙ answered-next (filterLine O back ahead row) row (length-line O back ahead row) ahead t (K .order .blank) x l (λ a. e ∙ front-answer t start′ count′ vs′ ps′ l s q a ∙ sym (line-at O back ahead row (t - ahead) (K .order .blank) (omega arith)))
 
-    answered-long : (x : A) → length (answered ahead t x row′) ≡ length row
-    unfolding answered
+    answered-long : (x : A) → length (answerPut ahead t x row′) ≡ length row
+    unfolding answerPut
     answered-long x = split (leb ahead t) (λ b. rw (b, length-set) (h .long)) (λ b. rw b (h .long))
 
     -- what is left of the row is as it was
@@ -126,7 +127,7 @@ module _ {A : Type 0} (K : Samples A) (kind : Kind) (back ahead : ℕ) (row : Li
     -- a step that reads
     pub read-next : (v x : A) (r : Room) → t < length row → back ≤ 31 → ahead ≤ 31 → v ≡ getD row′ t (K .order .blank) → Roomed K kind w t v vs ps start count r
         → x ≡ getD (set vs (r .at) v) (r .start) (K .order .blank)
-        → Read K kind back ahead row (t + 1) (answered ahead t x row′) (set vs (r .at) v) (set ps (r .at) t) (r .start) (r .count + 1) (c + r .comparisons)
+        → Read K kind back ahead row (t + 1) (answerPut ahead t x row′) (set vs (r .at) v) (set ps (r .at) t) (r .start) (r .count + 1) (c + r .comparisons)
     read-next v x r l b a e m y =
         let z : length vs ≡ 63 = h .values-long in
         let z′ : length (set vs (r .at) v) ≡ length vs = simp length-set in
@@ -147,7 +148,7 @@ module _ {A : Type 0} (K : Samples A) (kind : Kind) (back ahead : ℕ) (row : Li
     -- a step that drains
     pub drain-next : (x : A) (gone start′ : ℕ) → length row ≤ t → t < length row + ahead → back ≤ 31 → ahead ≤ 31 → gone ≡ goesOf w t count (getD ps start 0)
         → start′ ≡ wrap 63 (start + gone) → start′ < 63 → x ≡ getD vs start′ (K .order .blank)
-        → Read K kind back ahead row (t + 1) (answered ahead t x row′) vs ps start′ (count - gone) c
+        → Read K kind back ahead row (t + 1) (answerPut ahead t x row′) vs ps start′ (count - gone) c
     drain-next x gone start′ l k b a e s s′ y =
         let z : length vs ≡ 63 = h .values-long in
         let f = h .fits in
@@ -199,8 +200,8 @@ module _ {A : Type 0} (K : Samples A) (back ahead : ℕ) (row′ : List A) (vs :
 
   pub drain-step : (row″ : List A) (start′ count′ t : ℕ) → Draining row″ start′ count′ t → (x : A) (gone next : ℕ) → length row′ ≤ t → t < length row′ + ahead → back ≤ 31 → ahead ≤ 31
       → gone ≡ goesOf (back + ahead + 1) t count′ (getD ps start′ 0) → gone ≤ count′ → next ≡ wrap 63 (start′ + gone) → next < 63 → x ≡ getD vs next (K .order .blank)
-      → Draining (answered ahead t x row″) next (count′ - gone) (t + 1)
-  unfolding answered
+      → Draining (answerPut ahead t x row″) next (count′ - gone) (t + 1)
+  unfolding answerPut
   drain-step row″ start′ count′ t h x gone next l k b a e m s s′ y = record {
     below = s′;
     fits = omega (arith, h .fits);

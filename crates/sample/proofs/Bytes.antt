@@ -13,12 +13,12 @@ use lib.Seq.{getD-drop, drop-at, length-take-le, sets-eq}
 use lib.Ieee.{Float, nan, binary32, ofBits, toBits, fits, nanBits}
 use lib.Ieee.Bits.{ofBits-toBits, toBits-ofBits, toBits-lt, nanBits-is, nanBits-above}
 use lib.Ieee.Scale.{finite}
-use Rattle.sample.specs.Bytes.{numberOf, digitsOf, floatOf, floatAt, bytesOf}
+use Rattle.sample.specs.Inner.{fourBytes, digitsOf, floatOf, floatAt, bytesOf}
 use Rattle.sample.proofs.Floats.{is-nan, finite-not-nan}
 
 -- ---- the two round trips
 
-number-digits : (n : ℕ) → n < 4294967296 → numberOf (n % 256) (n / 256 % 256) (n / 65536 % 256) (n / 16777216) ≡ n
+number-digits : (n : ℕ) → n < 4294967296 → fourBytes (n % 256) (n / 256 % 256) (n / 65536 % 256) (n / 16777216) ≡ n
 number-digits n h = omega arith
 
 -- a float of the format, to bytes and back
@@ -26,15 +26,15 @@ pub float-back : (x : Float) → T (fits binary32 x) → floatAt (bytesOf x) 0 �
 float-back x p = ap (ofBits binary32) (number-digits (toBits binary32 x) (toBits-lt binary32 x p)) ∙ ofBits-toBits binary32 x p
 
 module _ (a b c d : ℕ) (A : a < 256) (B : b < 256) (C : c < 256) (D : d < 256) where
-  digits-number : digitsOf (numberOf a b c d) ≡ a ∷ b ∷ c ∷ d ∷ []
+  digits-number : digitsOf (fourBytes a b c d) ≡ a ∷ b ∷ c ∷ d ∷ []
   digits-number =
-      let n = numberOf a b c d in
+      let n = fourBytes a b c d in
       let e : (n % 256 ≡ a) × (n / 256 % 256 ≡ b) × (n / 65536 % 256 ≡ c) × (n / 16777216 ≡ d) = (omega arith, omega arith, omega arith, omega arith) in
       cc
 
   -- four bytes whose float is finite, to that float and back
   pub bytes-back : finite (floatOf a b c d) ≡ true → bytesOf (floatOf a b c d) ≡ a ∷ b ∷ c ∷ d ∷ []
-  bytes-back h = ap digitsOf (toBits-ofBits binary32 (numberOf a b c d) (omega arith) (finite-not-nan (floatOf a b c d) h)) ∙ digits-number
+  bytes-back h = ap digitsOf (toBits-ofBits binary32 (fourBytes a b c d) (omega arith) (finite-not-nan (floatOf a b c d) h)) ∙ digits-number
 
 -- ---- at a place among others
 

@@ -1,3 +1,3 @@
 pub mod Rate
-pub mod Bytes
 pub mod Samples
+pub mod Inner

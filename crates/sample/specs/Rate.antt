@@ -1,8 +1,6 @@
--- What the promises on floats say beyond morph's words `rate` and `plusZero`: which of two passes, which are accepted, and the first column that is not.
+-- What the promises on floats say beyond morph's words `rate` and `plusZero`: which of two passes, and which are accepted.
 -- "Floats: accepted pixels are finite. A negative zero is read as positive zero, so output never holds a negative zero. Order is the floats' own comparison."
-use mathlib.Core.Bool.{Bool, false, cond, not, _&&_}
-use mathlib.Core.List.{List, [], _∷_}
-use Prim.Native.Nat.{ℕ, suc}
+use mathlib.Core.Bool.{Bool, false, not, _&&_}
 use lib.Dec.{eqb}
 use lib.Ieee.{Float, nan, inf, fin, le}
 use lib.Ieee.Scale.{finite}
@@ -24,8 +22,3 @@ negativeZero (fin s m e) = s && eqb m 0
 -- a pixel as the filter has it: "accepted pixels are finite", and a negative zero was read as positive zero
 abbrev pub accepted : Float → Bool
 accepted x = finite x && not (negativeZero x)
-
--- "a pixel is not finite; the first such column is named": the number of columns before it, and of all columns where each is finite
-unfoldable pub firstNotFinite : List Float → ℕ
-firstNotFinite [] = 0
-firstNotFinite (x ∷ row) = cond (finite x) (suc (firstNotFinite row)) 0

@@ -2,7 +2,8 @@
 -- Grey bytes and rates are the two; every law above is said over this record.
 use mathlib.Core.Path.{_≡_, refl, _∙_}
 use mathlib.Core.Bool.{Bool, true, false, cond}
-use Prim.Native.Nat.{ℕ}
+use mathlib.Core.List.{List, [], _∷_}
+use Prim.Native.Nat.{ℕ, suc}
 use Rattle.morph.specs.declared.Kind.{Kind}
 use Rattle.morph.specs.Order.{Order, orderOf}
 use Rattle.morph.specs.declared.Kind.the-variants.{Erosion, Dilation}
@@ -22,6 +23,11 @@ pub record Samples (A : Type 0) : Type 0 where
   pub zero : A
   pub agrees : (kind : Kind) (new old : A) → good new ≡ true → good old ≡ true → passes kind new old ≡ orderOf kind order .le old new
   pub keeps : (a : A) → good a ≡ true → good (taken a) ≡ true
+
+-- "8 | a pixel is not finite; the first such column is named": the number of columns before it, and of all columns where each is accepted
+abbrev pub firstBad : {A : Type 0} → Samples A → List A → ℕ
+firstBad K [] = 0
+firstBad K (a ∷ row) = cond (K .good a) (suc (firstBad K row)) 0
 
 -- every byte is accepted, as itself
 abbrev pub greys : Samples ℕ

@@ -7,8 +7,9 @@ ghost use lib.Ieee.{binary32, ofBits, toBits};
 ghost use lib.Ieee.Scale.{finite};
 ghost use Rattle.morph.specs.Lists.{all};
 ghost use Rattle.morph.specs.Rate.{plusZero};
-ghost use Rattle.sample.specs.Rate.{passesOf, firstNotFinite};
-ghost use Rattle.sample.specs.Bytes.{floatOf, floatAt, bytesOf};
+ghost use Rattle.sample.specs.Rate.{passesOf};
+ghost use Rattle.sample.specs.Inner.{floatOf, floatAt, bytesOf};
+ghost use Rattle.sample.specs.Samples.{firstBad, rates};
 use morph::Kind;
 
 // ---- one float
@@ -104,7 +105,7 @@ fn all_finite(row: &[f32]) -> bool
 
 // The first column that is not finite, found by looking at one after another; the length if there is none.
 fn search(row: &[f32]) -> usize
-    ensures { λ r. ⌜ r ≡ firstNotFinite (now (row .entry)) ⌝ }
+    ensures { λ r. ⌜ r ≡ firstBad rates (now (row .entry)) ⌝ }
 {
     let mut i = 0;
     while i < row.len() {
@@ -118,7 +119,7 @@ fn search(row: &[f32]) -> usize
 
 // The first column that is not finite; the length if there is none. It searches only a row that is known to have one.
 pub fn first_not_finite(row: &[f32]) -> usize
-    ensures { λ r. ⌜ r ≡ firstNotFinite (now (row .entry)) ⌝ }
+    ensures { λ r. ⌜ r ≡ firstBad rates (now (row .entry)) ⌝ }
 {
     if all_finite(row) {
         return row.len();

@@ -15,7 +15,7 @@ use Rattle.morph.specs.Lists.{Each, tabulate, sumTo}
 use Rattle.morph.specs.Line.{filterLine, front, lineCost, lineCosts}
 use Rattle.morph.specs.Picture.{Picture, Stage as Filter, applyStage, across, column}
 use Rattle.morph.specs.Plan.{window, columnQueue, stageCost}
-use Rattle.morph.specs.Step.{stepCost, roomed}
+use Rattle.morph.specs.Inner.{roomed, stepCost}
 use Rattle.morph.proofs.Lists.{each-in, each-getD, each-map, in-each, length-tabulate, getD-tabulate}
 use Rattle.morph.proofs.Line.{queue-some, length-line, line-each}
 use Rattle.morph.proofs.Step.{step-drain}
@@ -23,11 +23,12 @@ use Rattle.morph.proofs.Picture.{stage-wide, stage-length}
 use Rattle.morph.proofs.Plan.{stage-front, across-at, column-length, stage-cost-drain}
 use Rattle.sample.specs.Samples.{Samples}
 use Rattle.queue.proofs.Steps.{next-queue, next-cost}
-use Rattle.columns.specs.Columns.{Lent, columnAt, RecordsMoved, RowRead, reads, frontAt}
+use Rattle.columns.specs.Inner.{Lent, RecordsMoved, reads, RowRead, frontAt}
+use Rattle.memory.specs.Memory.{Memory, memory, columnAt, Whole, StageHolds}
 use Rattle.columns.proofs.Column.{front-column}
 use Rattle.plan_record.specs.declared.Stage.{Stage}
 use Rattle.plan_record.specs.Plan.{filterOf, sizeOf, belowOf}
-use Rattle.stage.specs.Stage.{Memory, Whole, StageHolds, RowTaken, StageMoved, StageStep}
+use Rattle.stage.specs.Inner.{RowTaken, StageMoved, StageStep}
 
 -- the window reaches no further than its extents
 pub back-small : (kind : Kind) (a b : ℕ) → a ≤ 31 → b ≤ 31 → backOf kind a b ≤ 31
@@ -181,14 +182,14 @@ module _ {A : Type 0} (K : Samples A) (s : Stage) (H t : ℕ) (M : Memory A) (ro
       }
 
   pub drained-moved : (ss ls : List ℕ) → H ≤ t → t < H + belowOf s → length (M .starts) ≡ length row → RecordsMoved K (sizeOf s) (length (M .starts)) (λ _. roomed (sizeOf s) t) (M .positions) (M .starts) (M .lengths) ss ls
-      → StageMoved K s H t M row (record { values = M .values; positions = M .positions; starts = ss; lengths = ls }) row 0
+      → StageMoved K s H t M row (memory (M .values) (M .positions) ss ls) row 0
   drained-moved ss ls l k w h = record {
     values-long = refl;
     lent = rw (← w) (h (M .values) .lent);
     row-long = refl;
     few = omega arith;
     told = λ p whole holds e. (
-      drain-holds K s (length row) H p whole t M (record { values = M .values; positions = M .positions; starts = ss; lengths = ls }) holds l k (λ x i. h (M .values) .each x (rw w i)),
+      drain-holds K s (length row) H p whole t M (memory (M .values) (M .positions) ss ls) holds l k (λ x i. h (M .values) .each x (rw w i)),
       drain-cost K s (length row) H p whole t l,
     );
   }

@@ -4,9 +4,11 @@ ghost use mathlib.Core.Path.{_≡_};
 ghost use Prim.Native.Nat.{_+_, _≤_, _<_};
 ghost use lib.ListN.{length};
 ghost use Rattle.sample.specs.Samples.{greys};
-ghost use Rattle.columns.specs.Columns.{Lent, RowRead};
-ghost use Rattle.plan_record.specs.Plan.{Small, sizeOf, belowOf};
-ghost use Rattle.stage.specs.Stage.{RowTaken, StageMoved, StageStep};
+ghost use Rattle.columns.specs.Inner.{Lent, RowRead};
+ghost use Rattle.plan_record.specs.Plan.{sizeOf, belowOf};
+ghost use Rattle.plan_record.specs.Inner.{Small};
+ghost use Rattle.stage.specs.Inner.{RowTaken, StageMoved, StageStep};
+ghost use Rattle.memory.specs.Memory.{memory};
 use morph::Kind;
 use plan_record::Stage;
 use plan_record::size_of;
@@ -60,7 +62,7 @@ fn take_row(
     row: &mut [u8],
 ) -> usize
     requires { ⌜ Small stage × (t < 65535) × Lent (sizeOf stage) (length (now row)) (now positions) (now starts) (now lengths) × (length (now values) ≡ length (now positions)) ⌝ }
-    ensures { λ r. ⌜ RowTaken greys stage t (record { values = now (values .entry); positions = now (positions .entry); starts = now (starts .entry); lengths = now (lengths .entry) }) (now (row .entry)) (record { values = now (values .exit); positions = now (positions .exit); starts = now (starts .exit); lengths = now (lengths .exit) }) (now (row .exit)) r ⌝ }
+    ensures { λ r. ⌜ RowTaken greys stage t (memory (now (values .entry)) (now (positions .entry)) (now (starts .entry)) (now (lengths .entry))) (now (row .entry)) (memory (now (values .exit)) (now (positions .exit)) (now (starts .exit)) (now (lengths .exit))) (now (row .exit)) r ⌝ }
 {
     let kind = stage.kind;
     let a = row_grey::across(
@@ -94,7 +96,7 @@ fn move_on(
     row: &mut [u8],
 ) -> usize
     requires { ⌜ Small stage × (rows ≤ 65535) × Lent (sizeOf stage) (length (now row)) (now positions) (now starts) (now lengths) × (length (now values) ≡ length (now positions)) × (t < rows + belowOf stage) ⌝ }
-    ensures { λ r. ⌜ StageMoved greys stage rows t (record { values = now (values .entry); positions = now (positions .entry); starts = now (starts .entry); lengths = now (lengths .entry) }) (now (row .entry)) (record { values = now (values .exit); positions = now (positions .exit); starts = now (starts .exit); lengths = now (lengths .exit) }) (now (row .exit)) r ⌝ }
+    ensures { λ r. ⌜ StageMoved greys stage rows t (memory (now (values .entry)) (now (positions .entry)) (now (starts .entry)) (now (lengths .entry))) (now (row .entry)) (memory (now (values .exit)) (now (positions .exit)) (now (starts .exit)) (now (lengths .exit))) (now (row .exit)) r ⌝ }
 {
     if t < rows {
         return take_row(stage, t, values, positions, starts, lengths, row);
@@ -115,7 +117,7 @@ pub fn step(
     row: &mut [u8],
 ) -> usize
     requires { ⌜ Small stage × (rows ≤ 65535) × Lent (sizeOf stage) (length (now row)) (now positions) (now starts) (now lengths) × (length (now values) ≡ length (now positions)) ⌝ }
-    ensures { λ r. ⌜ StageStep greys stage rows t (record { values = now (values .entry); positions = now (positions .entry); starts = now (starts .entry); lengths = now (lengths .entry) }) (now (row .entry)) (record { values = now (values .exit); positions = now (positions .exit); starts = now (starts .exit); lengths = now (lengths .exit) }) (now (row .exit)) r ⌝ }
+    ensures { λ r. ⌜ StageStep greys stage rows t (memory (now (values .entry)) (now (positions .entry)) (now (starts .entry)) (now (lengths .entry))) (now (row .entry)) (memory (now (values .exit)) (now (positions .exit)) (now (starts .exit)) (now (lengths .exit))) (now (row .exit)) r ⌝ }
 {
     let ahead = plan_record::below(stage);
     if rows + ahead <= t {

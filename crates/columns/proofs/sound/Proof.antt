@@ -3,7 +3,7 @@ use mathlib.Core.Path.{_≡_, refl}
 use Prim.Native.Nat.{_≤_, _-_}
 use native.Mathlib.Omega.{arith}
 use lib.ListN.{length, take}
-use Rattle.columns.specs.Columns.{soundRecords}
+use Rattle.memory.specs.Memory.{soundRecords}
 use Rattle.columns.proofs.Records.{judge-next, judge-end}
 use Rattle.columns.proofs.sound.Statement.{statement}
 use Rattle.columns.proofs.sound.Tie as tie

@@ -51,14 +51,4 @@ pub fronts-spec : {M : Type 1} → statement M
 fronts-spec =
     tie.close
     (tie.spec
-    Inv-loop
-    μ-loop
-    loop-holds
-    front-of-requires
-    slice-write-row
-    add-lo
-    add-x
-    loop-less
-    loop-again
-    same-length
-    returns)
+    Inv-loop μ-loop loop-holds front-of-requires slice-write-row add-lo add-x loop-less loop-again same-length returns)

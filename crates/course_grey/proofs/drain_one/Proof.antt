@@ -14,19 +14,19 @@ put-requires : tie.Need-put-requires
 put-requires c κs = search needs
 
 same-length : tie.Need-same-length
-same-length c = c .before .before .before .before .before .before .before .before .before .before .before .before .before .frame .given
+same-length c = search needs
 
 same-length-2 : tie.Need-same-length-2
-same-length-2 c = c .before .before .before .before .before .before .before .before .before .before .before .values .given
+same-length-2 c = search needs
 
 same-length-3 : tie.Need-same-length-3
-same-length-3 c = c .before .before .before .before .before .before .before .before .before .positions .given
+same-length-3 c = search needs
 
 same-length-4 : tie.Need-same-length-4
-same-length-4 c = c .before .before .before .before .before .before .before .starts .given
+same-length-4 c = search needs
 
 same-length-5 : tie.Need-same-length-5
-same-length-5 c = c .before .before .before .before .before .lengths .given
+same-length-5 c = search needs
 
 returns : tie.Need-returns
 returns c = drain-turned (c .before .before .before .before .before .before .before .before .before .before .before .before .before .before .drain .ensures .1) (c .before .before .before .next-of .ensures) (c .before .put .ensures)
@@ -35,12 +35,4 @@ pub drain-one-spec : {M : Type 1} → statement M
 drain-one-spec =
     tie.close
     (tie.spec
-    drain-requires
-    next-of-requires
-    put-requires
-    same-length
-    same-length-2
-    same-length-3
-    same-length-4
-    same-length-5
-    returns)
+    drain-requires next-of-requires put-requires same-length same-length-2 same-length-3 same-length-4 same-length-5 returns)

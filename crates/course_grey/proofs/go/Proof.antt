@@ -1,5 +1,4 @@
 -- Both loops keep the slices as long as they were.
-use mathlib.Core.Path.{_∙_}
 use native.Mathlib.Omega.{arith}
 use borrow.Author.Needs.{needs}
 use Rattle.course.proofs.Laws.{not-on, gone-stops, gone-both}
@@ -13,68 +12,60 @@ enum-told : tie.Need-enum-told
 enum-told c = search needs
 
 same-length : tie.Need-same-length
-same-length c = c .before .before .before .before .before .before .before .before .before .before .before .before .row .given
+same-length c = search needs
 
 same-length-2 : tie.Need-same-length-2
-same-length-2 c = c .before .before .before .before .before .before .before .before .before .before .frame .given
+same-length-2 c = search needs
 
 same-length-3 : tie.Need-same-length-3
-same-length-3 c = c .before .before .before .before .before .before .before .before .values .given
+same-length-3 c = search needs
 
 same-length-4 : tie.Need-same-length-4
-same-length-4 c = c .before .before .before .before .before .before .positions .given
+same-length-4 c = search needs
 
 same-length-5 : tie.Need-same-length-5
-same-length-5 c = c .before .before .before .before .starts .given
+same-length-5 c = search needs
 
 same-length-6 : tie.Need-same-length-6
-same-length-6 c = c .before .before .lengths .given
+same-length-6 c = search needs
 
 returns : tie.Need-returns
 returns c = gone-stops (c .before .before .before .before .before .before .before .before .before .before .before .before .before .read-all .ensures) (not-on _ (c .match .keys2))
 
 drain-all-requires : tie.Need-drain-all-requires
-drain-all-requires c κs = omega (arith, c .before .before .before .before .before .before .before .before .before .before .before .before .before .before .before .before .before .frame .given, c .before .before .before .before .before .before .before .before .before .before .before .before .before .before .before .before .before .before .before .before .before .before .before .before .before .before .before .before .before .before .before .before .before .pre)
+drain-all-requires c κs =
+    let at-frame = c .before .before .before .before .before .before .before .before .before .before .before .before .before .before .before .before .before in
+    let start = at-frame .before .before .before .before .before .before .before .before .before .before .before .before .before .before .before .before in
+    omega (arith, at-frame .frame .given, start .pre)
 
 same-length-7 : tie.Need-same-length-7
-same-length-7 c = c .before .before .before .before .before .before .before .before .before .before .before .before .before .before .before .before .before .before .before .before .before .before .before .before .before .before .before .before .before .before .row .given
+same-length-7 c = search needs
 
 same-length-8 : tie.Need-same-length-8
-same-length-8 c = c .before .before .before .before .before .before .before .before .before .frame2 .given ∙ c .before .before .before .before .before .before .before .before .before .before .before .before .before .before .before .before .before .before .before .before .before .before .before .before .before .before .before .before .frame .given
+same-length-8 c = search needs
 
 same-length-9 : tie.Need-same-length-9
-same-length-9 c = c .before .before .before .before .before .before .before .values2 .given ∙ c .before .before .before .before .before .before .before .before .before .before .before .before .before .before .before .before .before .before .before .before .before .before .before .before .before .before .values .given
+same-length-9 c = search needs
 
 same-length-10 : tie.Need-same-length-10
-same-length-10 c = c .before .before .before .before .before .positions2 .given ∙ c .before .before .before .before .before .before .before .before .before .before .before .before .before .before .before .before .before .before .before .before .before .before .before .before .positions .given
+same-length-10 c = search needs
 
 same-length-11 : tie.Need-same-length-11
-same-length-11 c = c .before .before .before .starts2 .given ∙ c .before .before .before .before .before .before .before .before .before .before .before .before .before .before .before .before .before .before .before .before .before .before .starts .given
+same-length-11 c = search needs
 
 same-length-12 : tie.Need-same-length-12
-same-length-12 c = c .before .lengths2 .given ∙ c .before .before .before .before .before .before .before .before .before .before .before .before .before .before .before .before .before .before .before .before .lengths .given
+same-length-12 c = search needs
 
 returns-2 : tie.Need-returns-2
-returns-2 c = gone-both (c .before .before .before .before .before .before .before .before .before .before .before .before .before .before .before .before .before .before .before .before .before .before .before .before .before .before .before .before .before .before .before .read-all .ensures) (c .before .before .before .before .before .before .before .before .before .before .before .before .before .before .before .before .before .enum-told .given .1) (c .before .before .before .before .before .before .before .before .before .before .drain-all .ensures)
+returns-2 c =
+    let at-drain-all = c .before .before .before .before .before .before .before .before .before .before in
+    let at-enum-told = at-drain-all .before .before .before .before .before .before .before in
+    let at-read-all = at-enum-told .before .before .before .before .before .before .before .before .before .before .before .before .before .before in
+    gone-both (at-read-all .read-all .ensures) (at-enum-told .enum-told .given .1) (at-drain-all .drain-all .ensures)
 
 pub go-spec : {M : Type 1} → statement M
 go-spec =
     tie.close
     (tie.spec
-    read-all-requires
-    enum-told
-    same-length
-    same-length-2
-    same-length-3
-    same-length-4
-    same-length-5
-    same-length-6
-    returns
-    drain-all-requires
-    same-length-7
-    same-length-8
-    same-length-9
-    same-length-10
-    same-length-11
-    same-length-12
-    returns-2)
+    read-all-requires enum-told same-length same-length-2 same-length-3 same-length-4 same-length-5 same-length-6 returns drain-all-requires same-length-7
+    same-length-8 same-length-9 same-length-10 same-length-11 same-length-12 returns-2)

@@ -12,7 +12,7 @@ judge-group-requires : tie.Need-judge-group-requires
 judge-group-requires c κs = search needs
 
 same-length : tie.Need-same-length
-same-length c = c .before .before .before .row .given
+same-length c = search needs
 
 returns : tie.Need-returns
 returns c = short-turned (c .before .before .before .before .read-full .ensures .0) (c .before .judge-group .ensures) (c .if1 .taken) refl refl
@@ -27,41 +27,34 @@ put-requires : tie.Need-put-requires
 put-requires c κs = search needs
 
 same-length-2 : tie.Need-same-length-2
-same-length-2 c = c .before .before .before .before .before .before .before .before .before .before .before .before .before .before .before .before .before .before .before .before .before .before .before .before .row .given
+same-length-2 c = search needs
 
 same-length-3 : tie.Need-same-length-3
-same-length-3 c = c .before .before .before .before .before .before .before .before .before .before .before .before .before .frame .given
+same-length-3 c = search needs
 
 same-length-4 : tie.Need-same-length-4
-same-length-4 c = c .before .before .before .before .before .before .before .before .before .before .before .values .given
+same-length-4 c = search needs
 
 same-length-5 : tie.Need-same-length-5
-same-length-5 c = c .before .before .before .before .before .before .before .before .before .positions .given
+same-length-5 c = search needs
 
 same-length-6 : tie.Need-same-length-6
-same-length-6 c = c .before .before .before .before .before .before .before .starts .given
+same-length-6 c = search needs
 
 same-length-7 : tie.Need-same-length-7
-same-length-7 c = c .before .before .before .before .before .lengths .given
+same-length-7 c = search needs
 
 returns-2 : tie.Need-returns-2
-returns-2 c = row-turned (c .before .before .before .before .before .before .before .before .before .before .before .before .before .before .before .before .before .before .before .before .before .before .before .before .before .read-full .ensures .0) (sym (c .before .before .before .before .before .before .before .before .before .before .before .before .before .before .before .before .before .before .before .before .before .before .judge-group .ensures) ∙ c .before .before .before .before .before .before .before .before .before .before .before .before .before .before .before .before .before .before .before .before .before .if1 .left) (c .before .before .before .before .before .before .before .before .before .before .before .before .before .before .step .ensures .1) (c .before .before .before .next-of .ensures) (c .before .put .ensures)
+returns-2 c =
+    let at-next-of = c .before .before .before in
+    let at-step = at-next-of .before .before .before .before .before .before .before .before .before .before .before in
+    let at-if1 = at-step .before .before .before .before .before .before .before in
+    let at-read-full = at-if1 .before .before .before .before in
+    row-turned (at-read-full .read-full .ensures .0) (sym (at-if1 .before .judge-group .ensures) ∙ at-if1 .if1 .left) (at-step .step .ensures .1) (at-next-of .next-of .ensures) (c .before .put .ensures)
 
 pub read-one-spec : {M : Type 1} → statement M
 read-one-spec =
     tie.close
     (tie.spec
-    read-full-requires
-    judge-group-requires
-    same-length
-    returns
-    step-requires
-    next-of-requires
-    put-requires
-    same-length-2
-    same-length-3
-    same-length-4
-    same-length-5
-    same-length-6
-    same-length-7
-    returns-2)
+    read-full-requires judge-group-requires same-length returns step-requires next-of-requires put-requires same-length-2 same-length-3 same-length-4
+    same-length-5 same-length-6 same-length-7 returns-2)

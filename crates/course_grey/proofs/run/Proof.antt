@@ -70,35 +70,23 @@ slice-aggregate-go-6 c = search needs
 
 go-requires : tie.Need-go-requires
 go-requires c κs =
-    let l = length-take-le (1 + c .before .before .before .before .before .before .before .before .before .before .before .before .before .before .before .before .before .before .before .before .before .args .width) (c .before .before .before .before .before .before .before .frame .result) (omega (arith, c .before .before .before .before .before .before .before .frame .ensures, c .before .before .before .before .before .before .before .before .before .before .before .before .before .before .before .before .before .before .before .before .before .pre)) in
+    let at-frame = c .before .before .before .before .before .before .before in
+    let start = at-frame .before .before .before .before .before .before .before .before .before .before .before .before .before .before in
+    let l = length-take-le (1 + start .args .width) (at-frame .frame .result) (omega (arith, at-frame .frame .ensures, start .pre)) in
     omega arith
 
 returns-2 : tie.Need-returns-2
-returns-2 c = start-gone (c .before .before .before .before .before .before .before .before .before .before .before .before .before .before .before .before .before .before .before .before .before .before .before .start .ensures) (c .before .before .before .before .before .before .before .before .before .before .before .before .before .before .before .before .before .before .if1 .left) (c .before .before .before .before .before .before .before .before .before .before .before .before .before .look-ahead .ensures) (c .before .before .before .before .before .before .go .ensures)
+returns-2 c =
+    let at-go = c .before .before .before .before .before .before in
+    let at-look-ahead = at-go .before .before .before .before .before .before .before in
+    let at-if1 = at-look-ahead .before .before .before .before .before in
+    let at-start = at-if1 .before .before .before .before .before in
+    start-gone (at-start .start .ensures) (at-if1 .if1 .left) (at-look-ahead .look-ahead .ensures) (at-go .go .ensures)
 
 pub run-spec : {M : Type 1} → statement M
 run-spec =
     tie.close
     (tie.spec
-    buffer-requires
-    buffer-requires-2
-    slice-aggregate-start
-    slice-aggregate-start-2
-    start-requires
-    returns
-    buffer-requires-3
-    positions-requires
-    buffer-requires-4
-    frame-requires
-    add-end
-    look-ahead-requires
-    array-borrow-prefix-row
-    slice-aggregate-go
-    array-borrow-prefix-frame
-    slice-aggregate-go-2
-    slice-aggregate-go-3
-    slice-aggregate-go-4
-    slice-aggregate-go-5
-    slice-aggregate-go-6
-    go-requires
-    returns-2)
+    buffer-requires buffer-requires-2 slice-aggregate-start slice-aggregate-start-2 start-requires returns buffer-requires-3 positions-requires
+    buffer-requires-4 frame-requires add-end look-ahead-requires array-borrow-prefix-row slice-aggregate-go array-borrow-prefix-frame slice-aggregate-go-2
+    slice-aggregate-go-3 slice-aggregate-go-4 slice-aggregate-go-5 slice-aggregate-go-6 go-requires returns-2)

@@ -14,37 +14,32 @@ put-requires : tie.Need-put-requires
 put-requires c κs = search needs
 
 same-length : tie.Need-same-length
-same-length c = c .before .before .before .before .before .before .before .before .before .before .before .before .before .before .before .before .out .given
+same-length c = search needs
 
 same-length-2 : tie.Need-same-length-2
-same-length-2 c = c .before .before .frame .given
+same-length-2 c = search needs
 
 same-length-3 : tie.Need-same-length-3
-same-length-3 c = c .before .before .before .before .before .before .before .before .before .before .before .before .before .before .values .given
+same-length-3 c = search needs
 
 same-length-4 : tie.Need-same-length-4
-same-length-4 c = c .before .before .before .before .before .before .before .before .before .before .before .before .positions .given
+same-length-4 c = search needs
 
 same-length-5 : tie.Need-same-length-5
-same-length-5 c = c .before .before .before .before .before .before .before .before .before .before .starts .given
+same-length-5 c = search needs
 
 same-length-6 : tie.Need-same-length-6
-same-length-6 c = c .before .before .before .before .before .before .before .before .lengths .given
+same-length-6 c = search needs
 
 returns : tie.Need-returns
-returns c = drain-turned (c .before .before .before .before .before .before .before .before .before .before .before .before .before .before .before .before .before .drain .ensures) (c .before .before .before .before .before .before .next-of .ensures) (c .before .before .before .put .ensures)
+returns c =
+    let at-put = c .before .before .before in
+    let at-next-of = at-put .before .before .before in
+    let at-drain = at-next-of .before .before .before .before .before .before .before .before .before .before .before in
+    drain-turned (at-drain .drain .ensures) (at-next-of .next-of .ensures) (at-put .put .ensures)
 
 pub drain-one-spec : {M : Type 1} → statement M
 drain-one-spec =
     tie.close
     (tie.spec
-    drain-requires
-    next-of-requires
-    put-requires
-    same-length
-    same-length-2
-    same-length-3
-    same-length-4
-    same-length-5
-    same-length-6
-    returns)
+    drain-requires next-of-requires put-requires same-length same-length-2 same-length-3 same-length-4 same-length-5 same-length-6 returns)

@@ -27,34 +27,34 @@ copy-requires c κs = row-zero _ _ _ _ _ (accepted (c .before .before .before .b
 
 across-requires : tie.Need-across-requires
 across-requires c κs =
-    let (s, e) = row-zero _ _ _ _ _ (accepted (c .before .before .before .before .before .before .before .before .before .judge .ensures) (omega arith)) in
-    let b = back-fits (c .before .before .before .before .before .before .before .kind-of .result) (c .before .before .before .before .before .before .before .before .before .before .before .before .args .left) (c .before .before .before .before .before .before .before .before .before .before .before .before .args .right) (s .left-fits) (s .right-fits) in
-    let a = ahead-fits (c .before .before .before .before .before .before .before .kind-of .result) (c .before .before .before .before .before .before .before .before .before .before .before .before .args .left) (c .before .before .before .before .before .before .before .before .before .before .before .before .args .right) (s .left-fits) (s .right-fits) in
+    let at-copy = c .before .before .before in
+    let at-kind-of = at-copy .before .before .before .before in
+    let start = at-kind-of .before .before .before .before .before in
+    let (s, e) = row-zero _ _ _ _ _ (accepted (at-kind-of .before .before .judge .ensures) (omega arith)) in
+    let b = back-fits (at-kind-of .kind-of .result) (start .args .left) (start .args .right) (s .left-fits) (s .right-fits) in
+    let a = ahead-fits (at-kind-of .kind-of .result) (start .args .left) (start .args .right) (s .left-fits) (s .right-fits) in
     let n = s .pixels-fit in
-    (omega arith, omega arith, rw (c .before .before .before .copy .ensures) n)
+    (omega arith, omega arith, rw (at-copy .copy .ensures) n)
 
 same-length : tie.Need-same-length
 same-length c = search needs
 
 returns-2 : tie.Need-returns-2
-returns-2 c = let z = (accepted (c .before .before .before .before .before .before .before .before .before .before .before .before .judge .ensures) (omega arith)) in
-    let k = c .before .before .before .before .before .before .before .before .before .before .kind-of .ensures in
+returns-2 c =
+    let at-copy = c .before .before .before .before .before .before in
+    let at-back = at-copy .before .before .before in
+    let at-judge = at-back .before .before .before in
+    let start = at-judge .before .before .before in
+    let z = (accepted (at-judge .judge .ensures) (omega arith)) in
+    let k = at-back .before .kind-of .ensures in
     record {
       told = sym z;
       refuses = λ h. absurd (h z);
-      filters = λ _. filtered (c .before .before .before .before .before .before .before .before .before .before .before .before .before .before .before .args .kind) _ _ _ _ _ (c .before .before .before .before .before .before .before .before .before .before .before .before .before .before .before .args .input .now) _ k (c .before .before .before .before .before .before .before .before .before .back .ensures .0) (c .before .before .before .before .before .before .before .before .ahead .ensures .0) (c .before .before .before .before .before .before .copy .ensures) (c .before .before .across .ensures .filtered);
+      filters = λ _. filtered (start .args .kind) _ _ _ _ _ (start .args .input .now) _ k (at-back .back .ensures .0) (at-copy .before .before .ahead .ensures .0) (at-copy .copy .ensures) (c .before .before .across .ensures .filtered);
     }
 
 pub kelafshir-filter-row-spec : {M : Type 1} → statement M
 kelafshir-filter-row-spec =
     tie.close
     (tie.spec
-    judge-requires
-    returns
-    kind-of-requires
-    back-requires
-    ahead-requires
-    copy-requires
-    across-requires
-    same-length
-    returns-2)
+    judge-requires returns kind-of-requires back-requires ahead-requires copy-requires across-requires same-length returns-2)

@@ -28,29 +28,33 @@ read-head-requires c κs = search needs
 
 returns-2 : tie.Need-returns-2
 returns-2 c =
-    let a = c .before .before .before .before .before .args in
+    let at-if1 = c .before .before .before in
+    let a = at-if1 .before .before .args in
     let head = now (a .bytes) in
     let n = head-number (headNumber head) head (c .before .before .read-head .ensures) in
-    let g = sym (c .before .before .before .before .judge-group .ensures) ∙ c .before .before .before .if1 .left in
+    let g = sym (at-if1 .before .judge-group .ensures) ∙ at-if1 .if1 .left in
     image-narrow (a .plan) (a .got) head
     (c .before .before .read-head .ensures ∙ ap (λ (m : ℕ). headAnswered m head) (image-head (a .plan) (a .got) head g refl (λ z. c .if2 .taken (n ∙ z))))
 
 cells-requires : tie.Need-cells-requires
 cells-requires c κs =
-    let a = c .before .before .before .before .before .args in
+    let start = c .before .before .before .before .before in
+    let a = start .args in
     let head = now (a .bytes) in
-    (c .before .before .before .before .before .pre, head-narrow (headNumber head) head (λ z. z) (c .before .before .read-head .ensures))
+    (start .pre, head-narrow (headNumber head) head (λ z. z) (c .before .before .read-head .ensures))
 
 refused-head-requires-2 : tie.Need-refused-head-requires-2
 refused-head-requires-2 c κs = search needs
 
 returns-3 : tie.Need-returns-3
 returns-3 c =
-    let a = c .before .before .before .before .before .before .before .before .args in
+    let at-if2 = c .before .before .before in
+    let at-if1 = at-if2 .before .before .before in
+    let a = at-if1 .before .before .args in
     let head = now (a .bytes) in
-    let h = c .before .before .before .before .before .read-head .ensures in
-    let z = c .before .before .before .if2 .left in
-    let g = sym (c .before .before .before .before .before .before .before .judge-group .ensures) ∙ c .before .before .before .before .before .before .if1 .left in
+    let h = at-if2 .before .before .read-head .ensures in
+    let z = at-if2 .if2 .left in
+    let g = sym (at-if1 .before .judge-group .ensures) ∙ at-if1 .if1 .left in
     let w = c .before .before .cells .ensures ∙ ap (cellsNeeded (a .plan)) (head-width (headNumber head) head h z) in
     image-narrow (a .plan) (a .got) head
     (head-refused head (c .refused-head2 .ensures)
@@ -59,11 +63,13 @@ returns-3 c =
 
 returns-4 : tie.Need-returns-4
 returns-4 c =
-    let a = c .before .before .before .before .before .before .before .args in
+    let at-read-head = c .before .before .before .before in
+    let start = at-read-head .before .before .before in
+    let a = start .args in
     let head = now (a .bytes) in
-    let h = c .before .before .before .before .read-head .ensures in
+    let h = at-read-head .read-head .ensures in
     let z = c .before .before .if2 .left in
-    let g = sym (c .before .before .before .before .before .before .judge-group .ensures) ∙ c .before .before .before .before .before .if1 .left in
+    let g = sym (at-read-head .before .before .judge-group .ensures) ∙ at-read-head .before .if1 .left in
     let w = c .before .cells .ensures ∙ ap (cellsNeeded (a .plan)) (head-width (headNumber head) head h z) in
     let n = sym (head-number (headNumber head) head h) ∙ z in
     image-narrow (a .plan) (a .got) head
@@ -73,12 +79,4 @@ pub judge-image-spec : {M : Type 1} → statement M
 judge-image-spec =
     tie.close
     (tie.spec
-    judge-group-requires
-    refused-head-requires
-    returns
-    read-head-requires
-    returns-2
-    cells-requires
-    refused-head-requires-2
-    returns-3
-    returns-4)
+    judge-group-requires refused-head-requires returns read-head-requires returns-2 cells-requires refused-head-requires-2 returns-3 returns-4)

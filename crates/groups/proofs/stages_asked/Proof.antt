@@ -24,8 +24,9 @@ judge-count-requires c κs = search needs
 
 returns-2 : tie.Need-returns-2
 returns-2 c =
+    let at-if1 = c .before .before .before .before in
     let n = c .before .judge-count .ensures ∙ ap countNumber (c .before .before .wide .ensures .0) in
-    (asked-refused (now (c .before .before .before .before .before .before .args .bytes)) (c .before .before .before .before .if1 .left) (λ z. c .if2 .taken (n ∙ z)), omega arith)
+    (asked-refused (now (at-if1 .before .before .args .bytes)) (at-if1 .if1 .left) (λ z. c .if2 .taken (n ∙ z)), omega arith)
 
 mul-result : tie.Need-mul-result
 mul-result c =
@@ -34,18 +35,14 @@ mul-result c =
 
 returns-3 : tie.Need-returns-3
 returns-3 c =
-    let n = c .before .judge-count .ensures ∙ ap countNumber (c .before .before .wide .ensures .0) in
-    let k = counted (c .before .before .wide .result) (sym (c .before .judge-count .ensures) ∙ c .if2 .left) in
-    (ap (λ (m : ℕ). m * 5) (c .before .before .wide .ensures .0) ∙ asked-stages (now (c .before .before .before .before .before .before .args .bytes)) (c .before .before .before .before .if1 .left) (sym n ∙ c .if2 .left), omega arith)
+    let at-wide = c .before .before in
+    let start = at-wide .before .before .before .before in
+    let n = c .before .judge-count .ensures ∙ ap countNumber (at-wide .wide .ensures .0) in
+    let k = counted (at-wide .wide .result) (sym (c .before .judge-count .ensures) ∙ c .if2 .left) in
+    (ap (λ (m : ℕ). m * 5) (at-wide .wide .ensures .0) ∙ asked-stages (now (start .args .bytes)) (at-wide .before .before .if1 .left) (sym n ∙ c .if2 .left), omega arith)
 
 pub stages-asked-spec : {M : Type 1} → statement M
 stages-asked-spec =
     tie.close
     (tie.spec
-    returns
-    shared-slice-read-wide
-    wide-requires
-    judge-count-requires
-    returns-2
-    mul-result
-    returns-3)
+    returns shared-slice-read-wide wide-requires judge-count-requires returns-2 mul-result returns-3)

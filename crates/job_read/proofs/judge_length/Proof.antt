@@ -32,21 +32,24 @@ sub-there c = search needs
 
 returns : tie.Need-returns
 returns c =
-    let a = c .before .before .before .before .before .before .args in
-    let e : a .job .rows * (a .job .width * c .before .before .before .before .sample-bytes .result) ≡ a .job .rows * rowBytes (a .job) = ap (λ (k : ℕ). a .job .rows * (a .job .width * k)) (c .before .before .before .before .sample-bytes .ensures .0) in
-    rows-missing (now (a .bytes)) (a .job) (c .before .before .before .before .before .before .pre .0) e (c .if1 .taken)
+    let at-sample-bytes = c .before .before .before .before in
+    let a = at-sample-bytes .before .before .args in
+    let e : a .job .rows * (a .job .width * at-sample-bytes .sample-bytes .result) ≡ a .job .rows * rowBytes (a .job) = ap (λ (k : ℕ). a .job .rows * (a .job .width * k)) (at-sample-bytes .sample-bytes .ensures .0) in
+    rows-missing (now (a .bytes)) (a .job) (at-sample-bytes .before .before .pre .0) e (c .if1 .taken)
 
 returns-2 : tie.Need-returns-2
 returns-2 c =
-    let a = c .before .before .before .before .before .before .before .args in
-    let e : a .job .rows * (a .job .width * c .before .before .before .before .before .sample-bytes .result) ≡ a .job .rows * rowBytes (a .job) = ap (λ (k : ℕ). a .job .rows * (a .job .width * k)) (c .before .before .before .before .before .sample-bytes .ensures .0) in
-    rows-over (now (a .bytes)) (a .job) (c .before .before .before .before .before .before .before .pre .0) e (c .before .if1 .left) (c .if2 .taken)
+    let at-sample-bytes = c .before .before .before .before .before in
+    let a = at-sample-bytes .before .before .args in
+    let e : a .job .rows * (a .job .width * at-sample-bytes .sample-bytes .result) ≡ a .job .rows * rowBytes (a .job) = ap (λ (k : ℕ). a .job .rows * (a .job .width * k)) (at-sample-bytes .sample-bytes .ensures .0) in
+    rows-over (now (a .bytes)) (a .job) (at-sample-bytes .before .before .pre .0) e (c .before .if1 .left) (c .if2 .taken)
 
 returns-3 : tie.Need-returns-3
 returns-3 c =
-    let a = c .before .before .before .before .before .before .before .args in
-    let e : a .job .rows * (a .job .width * c .before .before .before .before .before .sample-bytes .result) ≡ a .job .rows * rowBytes (a .job) = ap (λ (k : ℕ). a .job .rows * (a .job .width * k)) (c .before .before .before .before .before .sample-bytes .ensures .0) in
-    rows-exact (now (a .bytes)) (a .job) (c .before .before .before .before .before .before .before .pre .0) e (c .before .if1 .left) (c .if2 .left)
+    let at-sample-bytes = c .before .before .before .before .before in
+    let a = at-sample-bytes .before .before .args in
+    let e : a .job .rows * (a .job .width * at-sample-bytes .sample-bytes .result) ≡ a .job .rows * rowBytes (a .job) = ap (λ (k : ℕ). a .job .rows * (a .job .width * k)) (at-sample-bytes .sample-bytes .ensures .0) in
+    rows-exact (now (a .bytes)) (a .job) (at-sample-bytes .before .before .pre .0) e (c .before .if1 .left) (c .if2 .left)
 
 pub judge-length-spec : {M : Type 1} → statement M
 judge-length-spec =

@@ -60,13 +60,4 @@ pub padded-spec : {M : Type 1} → statement M
 padded-spec =
     tie.close
     (tie.spec
-    Inv-loop
-    μ-loop
-    zeros-requires
-    loop-holds
-    shared-slice-read-whole
-    array-write-whole
-    add-i
-    loop-less
-    loop-again
-    returns)
+    Inv-loop μ-loop zeros-requires loop-holds shared-slice-read-whole array-write-whole add-i loop-less loop-again returns)

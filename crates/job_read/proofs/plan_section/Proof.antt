@@ -33,8 +33,10 @@ refused-requires-2 c κs = search needs
 
 returns-2 : tie.Need-returns-2
 returns-2 c =
-    let a = c .before .before .before .before .before .before .before .args in
-    section-refused (now (a .bytes)) (c .refused2 .ensures) (section-count (now (a .bytes)) (c .before .before .before .before .before .if1 .left) (c .before .before .judge-count .ensures ∙ ap countNumber (c .before .before .before .wide .ensures .0)) (c .before .if2 .taken)) (c .before .if2 .taken)
+    let at-wide = c .before .before .before in
+    let start = at-wide .before .before .before .before in
+    let a = start .args in
+    section-refused (now (a .bytes)) (c .refused2 .ensures) (section-count (now (a .bytes)) (at-wide .before .before .if1 .left) (c .before .before .judge-count .ensures ∙ ap countNumber (at-wide .wide .ensures .0)) (c .before .if2 .taken)) (c .before .if2 .taken)
 
 mul-end : tie.Need-mul-end
 mul-end c = search needs
@@ -47,8 +49,10 @@ refused-requires-3 c κs = search needs
 
 returns-3 : tie.Need-returns-3
 returns-3 c =
-    let a = c .before .before .before .before .before .before .before .before .args in
-    section-refused (now (a .bytes)) (c .refused3 .ensures) (section-missing (now (a .bytes)) (c .before .before .before .before .before .before .if1 .left) (sym (c .before .before .before .judge-count .ensures ∙ ap countNumber (c .before .before .before .before .wide .ensures .0)) ∙ c .before .before .if2 .left) (omega arith)) (λ z. omega arith)
+    let at-judge-count = c .before .before .before in
+    let at-if1 = at-judge-count .before .before .before in
+    let a = at-if1 .before .before .args in
+    section-refused (now (a .bytes)) (c .refused3 .ensures) (section-missing (now (a .bytes)) (at-if1 .if1 .left) (sym (at-judge-count .judge-count .ensures ∙ ap countNumber (at-judge-count .before .wide .ensures .0)) ∙ c .before .before .if2 .left) (omega arith)) (λ z. omega arith)
 
 sub-padded : tie.Need-sub-padded
 sub-padded c = search needs
@@ -60,35 +64,24 @@ part-padded-end : tie.Need-part-padded-end
 part-padded-end c = search needs
 
 padded-requires : tie.Need-padded-requires
-padded-requires c κs = let n = counted (c .before .before .before .before .wide .result) (sym (c .before .before .before .judge-count .ensures) ∙ c .before .before .if2 .left) in simp (length-take, length-drop) (omega arith)
+padded-requires c κs =
+    let at-judge-count = c .before .before .before in
+    let n = counted (at-judge-count .before .wide .result) (sym (at-judge-count .judge-count .ensures) ∙ c .before .before .if2 .left) in simp (length-take, length-drop) (omega arith)
 
 read-requires : tie.Need-read-requires
 read-requires c κs = search needs
 
 returns-4 : tie.Need-returns-4
 returns-4 c =
-    let bytes = (now (c .before .before .before .before .before .before .before .before .before .before .before .args .bytes)) in
-    let e : 1 + c .before .before .before .before .before .before .before .wide .result * 5 - 1 ≡ getD bytes 0 0 * 5 = omega arith in
-    section-read bytes (c .before .before .before .before .before .before .before .before .before .if1 .left) (sym (c .before .before .before .before .before .before .judge-count .ensures ∙ ap countNumber (c .before .before .before .before .before .before .before .wide .ensures .0)) ∙ c .before .before .before .before .before .if2 .left) (omega arith) (ap (λ (n : ℕ). take n (drop 1 bytes)) e) _ (c .read .ensures ∙ ap (planRead (getD bytes 0 0)) (c .before .before .padded .ensures))
+    let at-if2 = c .before .before .before .before .before in
+    let at-if1 = at-if2 .before .before .before .before in
+    let bytes = (now (at-if1 .before .before .args .bytes)) in
+    let e : 1 + at-if2 .before .before .wide .result * 5 - 1 ≡ getD bytes 0 0 * 5 = omega arith in
+    section-read bytes (at-if1 .if1 .left) (sym (at-if2 .before .judge-count .ensures ∙ ap countNumber (at-if2 .before .before .wide .ensures .0)) ∙ at-if2 .if2 .left) (omega arith) (ap (λ (n : ℕ). take n (drop 1 bytes)) e) _ (c .read .ensures ∙ ap (planRead (getD bytes 0 0)) (c .before .before .padded .ensures))
 
 pub plan-section-spec : {M : Type 1} → statement M
 plan-section-spec =
     tie.close
     (tie.spec
-    refused-requires
-    returns
-    shared-slice-read-count
-    wide-requires
-    judge-count-requires
-    refused-requires-2
-    returns-2
-    mul-end
-    add-end
-    refused-requires-3
-    returns-3
-    sub-padded
-    part-padded-start
-    part-padded-end
-    padded-requires
-    read-requires
-    returns-4)
+    refused-requires returns shared-slice-read-count wide-requires judge-count-requires refused-requires-2 returns-2 mul-end add-end refused-requires-3
+    returns-3 sub-padded part-padded-start part-padded-end padded-requires read-requires returns-4)

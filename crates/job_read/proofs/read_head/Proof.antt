@@ -46,30 +46,25 @@ refused-head-requires-2 c κs = search needs
 
 returns-2 : tie.Need-returns-2
 returns-2 c =
-    let a = c .before .before .before .before .before .before .before .before .before .before .before .before .args in
-    head-refused (now (a .bytes)) (c .refused-head2 .ensures) (head-size (now (a .bytes)) (sym (c .before .before .before .before .before .before .before .before .before .before .judge-sample .ensures) ∙ c .before .before .before .before .before .before .before .before .before .if1 .left) (c .before .before .before .before .before .before .low-high .ensures .0) (c .before .before .before .low-high2 .ensures .0) (c .before .before .judge-size .ensures)) (c .before .if2 .taken)
+    let at-low-high2 = c .before .before .before in
+    let at-low-high = at-low-high2 .before .before .before in
+    let at-if1 = at-low-high .before .before .before in
+    let start = at-if1 .before .before .before in
+    let a = start .args in
+    head-refused (now (a .bytes)) (c .refused-head2 .ensures) (head-size (now (a .bytes)) (sym (at-if1 .before .judge-sample .ensures) ∙ at-if1 .if1 .left) (at-low-high .low-high .ensures .0) (at-low-high2 .low-high2 .ensures .0) (c .before .before .judge-size .ensures)) (c .before .if2 .taken)
 
 returns-3 : tie.Need-returns-3
 returns-3 c =
-    let a = c .before .before .before .before .before .before .before .before .before .before .before .args in
-    let n = head-size (now (a .bytes)) (sym (c .before .before .before .before .before .before .before .before .before .judge-sample .ensures) ∙ c .before .before .before .before .before .before .before .before .if1 .left) (c .before .before .before .before .before .low-high .ensures .0) (c .before .before .low-high2 .ensures .0) (c .before .judge-size .ensures) in
-    head-accepted (now (a .bytes)) (sym n ∙ c .if2 .left) refl (c .before .before .before .before .before .low-high .ensures .0) (c .before .before .low-high2 .ensures .0)
+    let at-low-high = c .before .before .before .before .before in
+    let at-if1 = at-low-high .before .before .before in
+    let start = at-if1 .before .before .before in
+    let a = start .args in
+    let n = head-size (now (a .bytes)) (sym (at-if1 .before .judge-sample .ensures) ∙ at-if1 .if1 .left) (at-low-high .low-high .ensures .0) (c .before .before .low-high2 .ensures .0) (c .before .judge-size .ensures) in
+    head-accepted (now (a .bytes)) (sym n ∙ c .if2 .left) refl (at-low-high .low-high .ensures .0) (c .before .before .low-high2 .ensures .0)
 
 pub read-head-spec : {M : Type 1} → statement M
 read-head-spec =
     tie.close
     (tie.spec
-    element-copy-out-sample
-    judge-sample-requires
-    refused-head-requires
-    returns
-    element-copy-out-low-high
-    element-copy-out-low-high-2
-    low-high-requires
-    element-copy-out-low-high-3
-    element-copy-out-low-high-4
-    low-high-requires-2
-    judge-size-requires
-    refused-head-requires-2
-    returns-2
-    returns-3)
+    element-copy-out-sample judge-sample-requires refused-head-requires returns element-copy-out-low-high element-copy-out-low-high-2 low-high-requires
+    element-copy-out-low-high-3 element-copy-out-low-high-4 low-high-requires-2 judge-size-requires refused-head-requires-2 returns-2 returns-3)

@@ -29,16 +29,20 @@ there-to-requires c κs = search needs
 returns-4 : tie.Need-returns-4
 unfolding viewNumber
 returns-4 c =
-    let a = c .before .before .before .before .before .before .before .args in
+    let at-if2 = c .before .before .before in
+    let start = at-if2 .before .before .before .before in
+    let a = start .args in
     let l : a .i < a .j = omega (arith, c .before .before .if3 .left) in
-    simp (le-ltb (a .j) (a .i) (c .before .before .before .before .before .if1 .left), le-ltb (a .job .rows) (a .j) (c .before .before .before .if2 .left), lt-ltb (a .i) (a .j) l, sym (c .before .there-to .ensures) ∙ c .if4 .taken)
+    simp (le-ltb (a .j) (a .i) (at-if2 .before .before .if1 .left), le-ltb (a .job .rows) (a .j) (at-if2 .if2 .left), lt-ltb (a .i) (a .j) l, sym (c .before .there-to .ensures) ∙ c .if4 .taken)
 
 returns-5 : tie.Need-returns-5
 unfolding viewNumber
 returns-5 c =
-    let a = c .before .before .before .before .before .before .before .args in
+    let at-if2 = c .before .before .before in
+    let start = at-if2 .before .before .before .before in
+    let a = start .args in
     let l : a .i < a .j = omega (arith, c .before .before .if3 .left) in
-    simp (le-ltb (a .j) (a .i) (c .before .before .before .before .before .if1 .left), le-ltb (a .job .rows) (a .j) (c .before .before .before .if2 .left), lt-ltb (a .i) (a .j) l, sym (c .before .there-to .ensures) ∙ c .if4 .left)
+    simp (le-ltb (a .j) (a .i) (at-if2 .before .before .if1 .left), le-ltb (a .job .rows) (a .j) (at-if2 .if2 .left), lt-ltb (a .i) (a .j) l, sym (c .before .there-to .ensures) ∙ c .if4 .left)
 
 pub judge-rows-spec : {M : Type 1} → statement M
 judge-rows-spec =

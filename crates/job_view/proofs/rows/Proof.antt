@@ -38,8 +38,9 @@ part-result-end-2 c = search needs
 
 returns-2 : tie.Need-returns-2
 returns-2 c =
-    let a = c .before .before .before .before .before .args in
-    view-none (now (a .bytes)) (a .job) (a .i) (a .j) (c .before .before .before .judge-rows .ensures) (c .before .before .if1 .left) (c .before .if2 .taken)
+    let at-judge-rows = c .before .before .before in
+    let a = at-judge-rows .before .before .args in
+    view-none (now (a .bytes)) (a .job) (a .i) (a .j) (at-judge-rows .judge-rows .ensures) (c .before .before .if1 .left) (c .before .if2 .taken)
 
 sample-bytes-requires : tie.Need-sample-bytes-requires
 sample-bytes-requires c κs = search needs
@@ -47,9 +48,11 @@ sample-bytes-requires c κs = search needs
 -- after the last test the rows are there, and so their ends are within the bytes
 here : (c : tie.After-struct-known) → Placed (length (now (c .before .before .before .before .before .before .args .bytes))) (c .before .before .before .before .before .before .args .job .at) (c .before .before .before .before .before .before .args .i) (c .before .before .before .before .before .before .args .j) (c .before .before .before .before .before .before .args .job .width * c .before .sample-bytes .result)
 here c =
-    let a = c .before .before .before .before .before .before .args in
+    let at-if1 = c .before .before .before in
+    let start = at-if1 .before .before .before in
+    let a = start .args in
     placed (a .job .width * c .before .sample-bytes .result) (ap (λ (k : ℕ). a .job .width * k) (c .before .sample-bytes .ensures .0))
-    (there (now (c .before .before .before .before .before .before .args .bytes)) (c .before .before .before .before .before .before .args .job) (c .before .before .before .before .before .before .args .i) (c .before .before .before .before .before .before .args .j) (sym (c .before .before .before .before .judge-rows .ensures) ∙ c .before .before .before .if1 .left) (c .before .before .if2 .left))
+    (there (now (start .args .bytes)) (start .args .job) (start .args .i) (start .args .j) (sym (at-if1 .before .judge-rows .ensures) ∙ at-if1 .if1 .left) (c .before .before .if2 .left))
 
 mul-size : tie.Need-mul-size
 mul-size c = let p = here c in omega arith
@@ -77,30 +80,15 @@ part-result-end-3 c = let p = here c in omega arith
 
 returns-3 : tie.Need-returns-3
 returns-3 c =
-    let a = c .before .before .before .before .before .before .before .args in
+    let at-if1 = c .before .before .before .before in
+    let start = at-if1 .before .before .before in
+    let a = start .args in
     let e : a .job .width * c .before .before .sample-bytes .result ≡ rowBytes (a .job) = ap (λ (k : ℕ). a .job .width * k) (c .before .before .sample-bytes .ensures .0) in
-    view-part (now (c .before .before .before .before .before .before .before .args .bytes)) (c .before .before .before .before .before .before .before .args .job) (c .before .before .before .before .before .before .before .args .i) (c .before .before .before .before .before .before .before .args .j) (c .before .before .before .before .before .judge-rows .ensures) (c .before .before .before .before .if1 .left) (ap (λ (k : ℕ). a .job .at + a .i * k) e) (ap (λ (k : ℕ). a .job .at + a .j * k) e)
+    view-part (now (start .args .bytes)) (start .args .job) (start .args .i) (start .args .j) (at-if1 .before .judge-rows .ensures) (at-if1 .if1 .left) (ap (λ (k : ℕ). a .job .at + a .i * k) e) (ap (λ (k : ℕ). a .job .at + a .j * k) e)
 
 pub rows-spec : {M : Type 1} → statement M
 rows-spec =
     tie.close
     (tie.spec
-    judge-rows-requires
-    sub-result
-    part-result-start
-    part-result-end
-    returns
-    sub-result-2
-    part-result-start-2
-    part-result-end-2
-    returns-2
-    sample-bytes-requires
-    mul-size
-    mul-start
-    add-start
-    mul-end
-    add-end
-    sub-result-3
-    part-result-start-3
-    part-result-end-3
-    returns-3)
+    judge-rows-requires sub-result part-result-start part-result-end returns sub-result-2 part-result-start-2 part-result-end-2 returns-2 sample-bytes-requires
+    mul-size mul-start add-start mul-end add-end sub-result-3 part-result-start-3 part-result-end-3 returns-3)

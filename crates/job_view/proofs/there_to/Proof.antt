@@ -39,24 +39,20 @@ fits-requires-2 c κs = search needs
 
 returns-3 : tie.Need-returns-3
 returns-3 c =
-    let a = c .before .before .before .before .before .before .before .before .args in
-    there-exact (now (a .bytes)) (a .job) (a .j) (c .before .before .before .before .before .if1 .left) (c .before .before .before .before .if2 .left) (c .before .sample-bytes .ensures .0) (c .before .sample-bytes .ensures .1) (c .fits3 .ensures)
+    let at-if2 = c .before .before .before .before in
+    let start = at-if2 .before .before .before .before in
+    let a = start .args in
+    there-exact (now (a .bytes)) (a .job) (a .j) (at-if2 .before .if1 .left) (at-if2 .if2 .left) (c .before .sample-bytes .ensures .0) (c .before .sample-bytes .ensures .1) (c .fits3 .ensures)
 
 returns-4 : tie.Need-returns-4
 returns-4 c =
-    let a = c .before .before .before .before .before .before .args in
-    there-short (now (a .bytes)) (a .job) (a .j) (c .before .before .before .if1 .left) (c .before .before .if2 .left) refl (some-bytes (a .job .sample)) (c .before .fits2 .ensures) (c .if3 .left)
+    let at-if1 = c .before .before .before in
+    let start = at-if1 .before .before .before in
+    let a = start .args in
+    there-short (now (a .bytes)) (a .job) (a .j) (at-if1 .if1 .left) (c .before .before .if2 .left) refl (some-bytes (a .job .sample)) (c .before .fits2 .ensures) (c .if3 .left)
 
 pub there-to-spec : {M : Type 1} → statement M
 there-to-spec =
     tie.close
     (tie.spec
-    returns
-    returns-2
-    sub-room
-    fits-requires
-    mul-fits
-    sample-bytes-requires
-    fits-requires-2
-    returns-3
-    returns-4)
+    returns returns-2 sub-room fits-requires mul-fits sample-bytes-requires fits-requires-2 returns-3 returns-4)

@@ -46,14 +46,4 @@ pub write-five-spec : {M : Type 1} → statement M
 write-five-spec =
     tie.close
     (tie.spec
-    slice-write-out
-    add-out
-    slice-write-out-2
-    add-out-2
-    slice-write-out-3
-    add-out-3
-    slice-write-out-4
-    add-out-4
-    slice-write-out-5
-    same-length
-    returns)
+    slice-write-out add-out slice-write-out-2 add-out-2 slice-write-out-3 add-out-3 slice-write-out-4 add-out-4 slice-write-out-5 same-length returns)

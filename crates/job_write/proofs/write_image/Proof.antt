@@ -29,17 +29,14 @@ same-length c = search needs
 
 returns : tie.Need-returns
 returns c =
-    let a = c .before .before .before .before .before .before .before .before .before .args in
-    c .before .before .write-five .ensures ∙ ap (λ (l : List ℕ). sets (now (a .out)) (a .at) l) (five-bytes (a .sample) (c .before .before .before .before .before .before .byte .ensures) (c .before .before .before .before .before .byte2 .ensures) (c .before .before .before .before .byte3 .ensures) (c .before .before .before .byte4 .ensures))
+    let at-byte4 = c .before .before .before in
+    let at-byte = at-byte4 .before .before .before in
+    let start = at-byte .before .before .before in
+    let a = start .args in
+    c .before .before .write-five .ensures ∙ ap (λ (l : List ℕ). sets (now (a .out)) (a .at) l) (five-bytes (a .sample) (at-byte .byte .ensures) (at-byte4 .before .before .byte2 .ensures) (at-byte4 .before .byte3 .ensures) (at-byte4 .byte4 .ensures))
 
 pub write-image-spec : {M : Type 1} → statement M
 write-image-spec =
     tie.close
     (tie.spec
-    byte-requires
-    byte-requires-2
-    byte-requires-3
-    byte-requires-4
-    write-five-requires
-    same-length
-    returns)
+    byte-requires byte-requires-2 byte-requires-3 byte-requires-4 write-five-requires same-length returns)

@@ -19,8 +19,10 @@ same-length c = search needs
 
 returns : tie.Need-returns
 returns c =
-    let a = c .before .before .before .before .before .before .args in
-    c .before .before .write-five .ensures ∙ ap (λ (k : ℕ). sets (now (a .out)) (a .at) (k ∷ a .stage .left ∷ a .stage .right ∷ a .stage .up ∷ a .stage .down ∷ [])) (c .before .before .before .kind-byte .ensures)
+    let at-kind-byte = c .before .before .before in
+    let start = at-kind-byte .before .before .before in
+    let a = start .args in
+    c .before .before .write-five .ensures ∙ ap (λ (k : ℕ). sets (now (a .out)) (a .at) (k ∷ a .stage .left ∷ a .stage .right ∷ a .stage .up ∷ a .stage .down ∷ [])) (at-kind-byte .kind-byte .ensures)
 
 pub write-stage-spec : {M : Type 1} → statement M
 write-stage-spec = tie.close (tie.spec kind-byte-requires write-five-requires same-length returns)

@@ -42,10 +42,11 @@ loop-less c = omega arith
 
 loop-again : tie.Need-loop-again Inv-loop μ-loop
 loop-again c =
-    let start = c .before .before .before .before .before .before .before .before in
+    let at-loop = c .before .before .before .before .before .before in
+    let start = at-loop .before .before in
     let l : length (start .args .t1 .stages) ≡ 16 = sym (length-map (start .args .t1 .stages) _) ∙ start .good .0 .1 .1 .1 .0 .1 .0 .1 in
-    let e = stages-next (now (start .args .out)) (start .args .t1 .stages) (c .before .before .before .before .before .before .loop .i) _ _ (omega arith) refl (c .before .before .before .before .before .before .loop .inv .1) (c .before .before .write-stage .ensures) in
-    (omega arith, e, ap length e ∙ length-sets (now (start .args .out)) 1 (stagesBytes (take (c .before .before .before .before .before .before .loop .i + 1) (start .args .t1 .stages))))
+    let e = stages-next (now (start .args .out)) (start .args .t1 .stages) (at-loop .loop .i) _ _ (omega arith) refl (at-loop .loop .inv .1) (c .before .before .write-stage .ensures) in
+    (omega arith, e, ap length e ∙ length-sets (now (start .args .out)) 1 (stagesBytes (take (at-loop .loop .i + 1) (start .args .t1 .stages))))
 
 same-length : tie.Need-same-length Inv-loop μ-loop
 same-length c = c .before .loop .inv .2
@@ -60,16 +61,5 @@ pub write-stages-spec : {M : Type 1} → statement M
 write-stages-spec =
     tie.close
     (tie.spec
-    Inv-loop
-    μ-loop
-    loop-holds
-    mul-stage
-    element-copy-out-stage
-    mul-write-stage
-    add-write-stage
-    write-stage-requires
-    add-i
-    loop-less
-    loop-again
-    same-length
+    Inv-loop μ-loop loop-holds mul-stage element-copy-out-stage mul-write-stage add-write-stage write-stage-requires add-i loop-less loop-again same-length
     returns)

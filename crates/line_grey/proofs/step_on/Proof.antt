@@ -1,7 +1,8 @@
 -- `step_on` meets its contract, by the test that led to each end.
 use mathlib.Core.Path.{refl}
 use borrow.Author.Tests.{le-leb, lt-leb}
-use Rattle.line_judge.specs.Steps.{onward, sayAt}
+use Rattle.line_judge.specs.Steps.{sayAt}
+use Rattle.line_judge.specs.Inner.{onward}
 use borrow.Author.Needs.{needs}
 use Rattle.line_grey.proofs.step_on.Statement.{statement}
 use Rattle.line_grey.proofs.step_on.Tie as tie
@@ -9,19 +10,19 @@ use Rattle.line_grey.proofs.step_on.Tie as tie
 ahead-requires : tie.Need-ahead-requires
 ahead-requires c κs = search needs
 
-cell-requires : tie.Need-cell-requires
-cell-requires c κs = search needs
+front-requires : tie.Need-front-requires
+front-requires c κs = search needs
 
-add-t15 : tie.Need-add-t15
-add-t15 c = search needs
+add-t9 : tie.Need-add-t9
+add-t9 c = search needs
 
 returns : tie.Need-returns
 unfolding onward sayAt
-returns c = (refl, simp (← c .before .before .before .before .before .before .before .ahead .ensures .0, lt-leb _ _ (c .if1 .taken)), search needs)
+returns c = (refl, simp (← c .before .before .ahead .ensures .0, lt-leb _ _ (c .if1 .taken)), search needs)
 
 returns-2 : tie.Need-returns-2
 unfolding onward sayAt
-returns-2 c = (refl, simp (c .before .cell .ensures .0, ← c .before .before .before .before .before .before .before .ahead .ensures .0, le-leb _ _ (c .if1 .left)), search needs)
+returns-2 c = (refl, simp (c .before .front .ensures .0, ← c .before .before .ahead .ensures .0, le-leb _ _ (c .if1 .left)), search needs)
 
 pub step-on-spec : {M : Type 1} → statement M
-step-on-spec = tie.close (tie.spec ahead-requires cell-requires add-t15 returns returns-2)
+step-on-spec = tie.close (tie.spec ahead-requires front-requires add-t9 returns returns-2)

@@ -1,5 +1,5 @@
 -- `kind_of` meets its contract, by the number.
-use Rattle.line_judge.proofs.Numbers.{kind-dilation}
+use Rattle.morph.proofs.Order.{kind-dilation}
 use borrow.Author.Needs.{needs}
 use Rattle.line_judge.proofs.kind_of.Statement.{statement}
 use Rattle.line_judge.proofs.kind_of.Tie as tie

@@ -1,7 +1,7 @@
 -- `read` meets its contract, by its number.
 use mathlib.Core.Path.{sym, _∙_}
 use Rattle.sample.specs.Samples.{rates}
-use Rattle.line_rate.specs.Rate.{stateOf}
+use Rattle.line_rate.specs.Rate.{rateLine}
 use Rattle.line_judge.proofs.Numbers.{read-zero}
 use Rattle.line_judge.proofs.Steps.{good-number, taken-accepts, answers-refusal, answers-step}
 use borrow.Author.Needs.{needs}
@@ -19,7 +19,8 @@ refusal-requires c κs = search needs
 
 returns : tie.Need-returns
 returns c =
-    answers-refusal rates _ _ _ _ _ _ (good-number rates (stateOf (c .before .before .before .before .before .args .line)) (c .before .before .before .before .before .args .v) _ _ (c .before .before .before .is-finite .ensures) (c .before .before .read .ensures)) (c .before .if1 .taken) (c .refusal .ensures)
+    let at-is-finite = c .before .before .before in
+    answers-refusal rates _ _ _ _ _ _ (good-number rates (rateLine (at-is-finite .before .before .args .line)) (at-is-finite .before .before .args .v) _ _ (at-is-finite .is-finite .ensures) (c .before .before .read .ensures)) (c .before .if1 .taken) (c .refusal .ensures)
 
 plus-zero-requires : tie.Need-plus-zero-requires
 plus-zero-requires c κs = search needs
@@ -29,16 +30,12 @@ read-on-requires c κs = let (s, l, _) = read-zero _ _ _ _ _ _ _ _ (sym (c .befo
 
 returns-2 : tie.Need-returns-2
 returns-2 c =
-    answers-step rates _ _ _ _ _ _ (good-number rates (stateOf (c .before .before .before .before .before .before .args .line)) (c .before .before .before .before .before .before .args .v) _ _ (c .before .before .before .before .is-finite .ensures) (c .before .before .before .read .ensures)) (c .before .before .if1 .left) (taken-accepts rates (stateOf (c .before .before .before .before .before .before .args .line)) _ _ (c .before .before .before .before .before .before .args .v) _ (c .before .plus-zero .ensures) (c .read-on .ensures))
+    let at-read = c .before .before .before in
+    let start = at-read .before .before .before in
+    answers-step rates _ _ _ _ _ _ (good-number rates (rateLine (start .args .line)) (start .args .v) _ _ (at-read .before .is-finite .ensures) (at-read .read .ensures)) (c .before .before .if1 .left) (taken-accepts rates (rateLine (start .args .line)) _ _ (start .args .v) _ (c .before .plus-zero .ensures) (c .read-on .ensures))
 
 pub read-spec : {M : Type 1} → statement M
 read-spec =
     tie.close
     (tie.spec
-    is-finite-requires
-    read-requires
-    refusal-requires
-    returns
-    plus-zero-requires
-    read-on-requires
-    returns-2)
+    is-finite-requires read-requires refusal-requires returns plus-zero-requires read-on-requires returns-2)

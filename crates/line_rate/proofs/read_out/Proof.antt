@@ -31,8 +31,4 @@ pub read-out-spec : {M : Type 1} → statement M
 read-out-spec =
     tie.close
     (tie.spec
-    read-out-requires
-    returns
-    slot-requires
-    cell-requires
-    returns-2)
+    read-out-requires returns slot-requires cell-requires returns-2)

@@ -1,16 +1,49 @@
 -- `row` meets its contract: judged, the row looked through for a pixel that is not finite, and then a step over the row as it is read.
-use mathlib.Core.Path.{sym, ap, _∙_}
+use mathlib.Core.Path.{_≡_, sym, ap, _∙_}
+use Prim.Native.Nat.{_≤_}
 use native.Mathlib.Omega.{arith}
-use borrow.Author.Needs.{needs}
+use lib.Ieee.{Float}
 use lib.ListN.{length, length-append, length-map}
 use lib.Seq.{length-take-le, take-at}
+use borrow.Author.Needs.{needs}
 use Rattle.sample.specs.Samples.{rates}
+use Rattle.memory.specs.Memory.{Memory, memory}
 use Rattle.picture_state.specs.Step.{refused}
-use Rattle.picture_state.proofs.Numbers.{offer-accepted}
-use Rattle.picture_state.proofs.Step.{judged-fit, refuses-row, bad-row, accepts-row, advanced-as}
-use Rattle.picture_rate.proofs.Rates.{bad-first, is-all, not-all}
+use Rattle.picture_state.proofs.Step.{Taken, offer-taken, refuses-row, bad-row, accepts-row, advanced-as}
+use Rattle.sample.proofs.Rows.{is-all, not-all}
 use Rattle.picture_rate.proofs.row.Statement.{statement}
 use Rattle.picture_rate.proofs.row.Tie as tie
+
+-- ---- the places that needs speak of, each by the one before it
+
+abbrev start-at-judged : tie.After-judge-row → tie.Start
+start-at-judged c = c .before .before .before .before .before .before .before .before .before
+
+abbrev accepted-at-blank : tie.After-blank → tie.Else1
+accepted-at-blank c = c .before .before .before
+
+abbrev start-at-blank : tie.After-blank → tie.Start
+start-at-blank c = start-at-judged (accepted-at-blank c .before)
+
+abbrev blank-at-take-in : tie.After-take-in → tie.After-blank
+blank-at-take-in c = c .before .before
+
+-- ---- what is known at them
+
+-- the memory lent
+abbrev lent : tie.Start → Memory Float
+lent s = memory (s .args .values .now) (s .args .positions .now) (s .args .starts .now) (s .args .lengths .now)
+
+judged : (c : tie.Else1) → (let s = start-at-judged (c .before) in Taken (s .args .state) (lent s) (s .args .out .now) × (length (s .args .row .now) ≡ s .args .state .width))
+judged c = let s = start-at-judged (c .before) in offer-taken 1 (s .args .state) (lent s) (s .args .row .now) (s .args .out .now) (sym (c .before .judge-row .ensures) ∙ c .if1 .left)
+
+room-wide : (c : tie.After-blank) → length (start-at-blank c .args .row .now) ≤ length (c .blank .result)
+room-wide c = let (a, w) = judged (accepted-at-blank c) in omega (arith, a .fit .run .narrow, w, c .blank .ensures)
+
+read-long : (c : tie.After-take-in) → length (c .take-in .last .1 .0) ≡ length (start-at-blank (blank-at-take-in c) .args .row .now)
+read-long c = ap length (c .take-in .ensures) ∙ length-map (start-at-blank (blank-at-take-in c) .args .row .now) _
+
+-- ---- the needs
 
 judge-row-requires : tie.Need-judge-row-requires
 judge-row-requires c κs = search needs
@@ -41,86 +74,65 @@ same-length-4 c = search needs
 
 returns-2 : tie.Need-returns-2
 returns-2 c =
-    bad-row rates 1 (c .before .before .before .before .before .before .before .before .before .before .before .before .before .args .state) (record { values = c .before .before .before .before .before .before .before .before .before .before .before .before .before .args .values .now; positions = c .before .before .before .before .before .before .before .before .before .before .before .before .before .args .positions .now; starts = c .before .before .before .before .before .before .before .before .before .before .before .before .before .args .starts .now; lengths = c .before .before .before .before .before .before .before .before .before .before .before .before .before .args .lengths .now }) _ _ _ _ (sym (c .before .before .before .before .judge-row .ensures) ∙ c .before .before .before .if1 .left) (not-all (c .before .before .before .before .before .before .before .before .before .before .before .before .before .args .row .now) _ (c .before .before .first-not-finite .ensures) (c .before .if2 .taken))
-    (c .refuses2 .ensures .0 ∙ ap (refused 8) (c .before .before .first-not-finite .ensures ∙ bad-first (c .before .before .before .before .before .before .before .before .before .before .before .before .before .args .row .now))) (c .refuses2 .ensures .1)
+    let a = c .before .before .before in
+    let s = start-at-judged (a .before) in
+    let n = c .before .before .first-not-finite .ensures in
+    bad-row rates 1 (s .args .state) (lent s) _ _ _ _ (sym (a .before .judge-row .ensures) ∙ a .if1 .left) (not-all rates (s .args .row .now) _ n (c .before .if2 .taken))
+    (c .refuses2 .ensures .0 ∙ ap (refused 8) n) (c .refuses2 .ensures .1)
 
 blank-requires : tie.Need-blank-requires
 blank-requires c κs = search needs
 
 array-borrow-prefix-room : tie.Need-array-borrow-prefix-room
-array-borrow-prefix-room c =
-    let (a, _, w, _) = offer-accepted 1 (c .before .before .before .before .before .before .before .before .before .before .before .before .before .args .state) (length (c .before .before .before .before .before .before .before .before .before .before .before .before .before .args .values .now)) (length (c .before .before .before .before .before .before .before .before .before .before .before .before .before .args .positions .now)) (c .before .before .before .before .before .before .before .before .before .before .before .before .before .args .starts .now) (c .before .before .before .before .before .before .before .before .before .before .before .before .before .args .lengths .now) (length (c .before .before .before .before .before .before .before .before .before .before .before .before .before .args .row .now)) (length (c .before .before .before .before .before .before .before .before .before .before .before .before .before .args .out .now)) (sym (c .before .before .before .before .judge-row .ensures) ∙ c .before .before .before .if1 .left) in
-    let f = judged-fit 1 (c .before .before .before .before .before .before .before .before .before .before .before .before .before .args .state) (record { values = c .before .before .before .before .before .before .before .before .before .before .before .before .before .args .values .now; positions = c .before .before .before .before .before .before .before .before .before .before .before .before .before .args .positions .now; starts = c .before .before .before .before .before .before .before .before .before .before .before .before .before .args .starts .now; lengths = c .before .before .before .before .before .before .before .before .before .before .before .before .before .args .lengths .now }) a in
-    omega (arith, f .run .narrow, c .blank .ensures)
+array-borrow-prefix-room c = room-wide c
 
 slice-aggregate-take-in : tie.Need-slice-aggregate-take-in
-slice-aggregate-take-in c =
-    let (a, _, w, _) = offer-accepted 1 (c .before .before .before .before .before .before .before .before .before .before .before .before .before .before .args .state) (length (c .before .before .before .before .before .before .before .before .before .before .before .before .before .before .args .values .now)) (length (c .before .before .before .before .before .before .before .before .before .before .before .before .before .before .args .positions .now)) (c .before .before .before .before .before .before .before .before .before .before .before .before .before .before .args .starts .now) (c .before .before .before .before .before .before .before .before .before .before .before .before .before .before .args .lengths .now) (length (c .before .before .before .before .before .before .before .before .before .before .before .before .before .before .args .row .now)) (length (c .before .before .before .before .before .before .before .before .before .before .before .before .before .before .args .out .now)) (sym (c .before .before .before .before .before .judge-row .ensures) ∙ c .before .before .before .before .if1 .left) in
-    let f = judged-fit 1 (c .before .before .before .before .before .before .before .before .before .before .before .before .before .before .args .state) (record { values = c .before .before .before .before .before .before .before .before .before .before .before .before .before .before .args .values .now; positions = c .before .before .before .before .before .before .before .before .before .before .before .before .before .before .args .positions .now; starts = c .before .before .before .before .before .before .before .before .before .before .before .before .before .before .args .starts .now; lengths = c .before .before .before .before .before .before .before .before .before .before .before .before .before .before .args .lengths .now }) a in
-    sym (length-take-le _ _ (omega (arith, f .run .narrow, c .before .blank .ensures)))
+slice-aggregate-take-in c = sym (length-take-le _ _ (room-wide (c .before)))
 
 take-in-requires : tie.Need-take-in-requires
-take-in-requires c κs =
-    let (a, _, w, _) = offer-accepted 1 (c .before .before .before .before .before .before .before .before .before .before .before .before .before .before .args .state) (length (c .before .before .before .before .before .before .before .before .before .before .before .before .before .before .args .values .now)) (length (c .before .before .before .before .before .before .before .before .before .before .before .before .before .before .args .positions .now)) (c .before .before .before .before .before .before .before .before .before .before .before .before .before .before .args .starts .now) (c .before .before .before .before .before .before .before .before .before .before .before .before .before .before .args .lengths .now) (length (c .before .before .before .before .before .before .before .before .before .before .before .before .before .before .args .row .now)) (length (c .before .before .before .before .before .before .before .before .before .before .before .before .before .before .args .out .now)) (sym (c .before .before .before .before .before .judge-row .ensures) ∙ c .before .before .before .before .if1 .left) in
-    let f = judged-fit 1 (c .before .before .before .before .before .before .before .before .before .before .before .before .before .before .args .state) (record { values = c .before .before .before .before .before .before .before .before .before .before .before .before .before .before .args .values .now; positions = c .before .before .before .before .before .before .before .before .before .before .before .before .before .before .args .positions .now; starts = c .before .before .before .before .before .before .before .before .before .before .before .before .before .before .args .starts .now; lengths = c .before .before .before .before .before .before .before .before .before .before .before .before .before .before .args .lengths .now }) a in
-    sym (length-take-le _ _ (omega (arith, f .run .narrow, c .before .blank .ensures)))
+take-in-requires c κs = sym (length-take-le _ _ (room-wide (c .before)))
 
 array-borrow-prefix-room-2 : tie.Need-array-borrow-prefix-room-2
-array-borrow-prefix-room-2 c = rw length-append (omega (arith, (ap length (c .before .take-in .ensures) ∙ length-map (c .before .before .before .before .before .before .before .before .before .before .before .before .before .before .before .before .args .row .now) _)))
+array-borrow-prefix-room-2 c = rw length-append (omega (arith, read-long (c .before)))
 
 slice-aggregate-advance : tie.Need-slice-aggregate-advance
-slice-aggregate-advance c = sym (ap length (take-at (c .before .before .take-in .last .1 .0) _ _ (ap length (c .before .before .take-in .ensures) ∙ length-map (c .before .before .before .before .before .before .before .before .before .before .before .before .before .before .before .before .before .args .row .now) _)) ∙ (ap length (c .before .before .take-in .ensures) ∙ length-map (c .before .before .before .before .before .before .before .before .before .before .before .before .before .before .before .before .before .args .row .now) _))
+slice-aggregate-advance c = let k = c .before .before in sym (ap length (take-at (k .take-in .last .1 .0) _ _ (read-long k)) ∙ read-long k)
 
 advance-requires : tie.Need-advance-requires
 advance-requires c κs =
-    let (a, b, w, o) = offer-accepted 1 (c .before .before .before .before .before .before .before .before .before .before .before .before .before .before .before .before .before .before .before .before .before .before .args .state) (length (c .before .before .before .before .before .before .before .before .before .before .before .before .before .before .before .before .before .before .before .before .before .before .args .values .now)) (length (c .before .before .before .before .before .before .before .before .before .before .before .before .before .before .before .before .before .before .before .before .before .before .args .positions .now)) (c .before .before .before .before .before .before .before .before .before .before .before .before .before .before .before .before .before .before .before .before .before .before .args .starts .now) (c .before .before .before .before .before .before .before .before .before .before .before .before .before .before .before .before .before .before .before .before .before .before .args .lengths .now) (length (c .before .before .before .before .before .before .before .before .before .before .before .before .before .before .before .before .before .before .before .before .before .before .args .row .now)) (length (c .before .before .before .before .before .before .before .before .before .before .before .before .before .before .before .before .before .before .before .before .before .before .args .out .now)) (sym (c .before .before .before .before .before .before .before .before .before .before .before .before .before .judge-row .ensures) ∙ c .before .before .before .before .before .before .before .before .before .before .before .before .if1 .left) in
-    let f = judged-fit 1 (c .before .before .before .before .before .before .before .before .before .before .before .before .before .before .before .before .before .before .before .before .before .before .args .state) (record { values = c .before .before .before .before .before .before .before .before .before .before .before .before .before .before .before .before .before .before .before .before .before .before .args .values .now; positions = c .before .before .before .before .before .before .before .before .before .before .before .before .before .before .before .before .before .before .before .before .before .before .args .positions .now; starts = c .before .before .before .before .before .before .before .before .before .before .before .before .before .before .before .before .before .before .before .before .before .before .args .starts .now; lengths = c .before .before .before .before .before .before .before .before .before .before .before .before .before .before .before .before .before .before .before .before .before .before .args .lengths .now }) a in
-    (f, ap length (take-at (c .before .before .before .before .before .before .before .take-in .last .1 .0) _ _ (ap length (c .before .before .before .before .before .before .before .take-in .ensures) ∙ length-map (c .before .before .before .before .before .before .before .before .before .before .before .before .before .before .before .before .before .before .before .before .before .before .args .row .now) _)) ∙ (ap length (c .before .before .before .before .before .before .before .take-in .ensures) ∙ length-map (c .before .before .before .before .before .before .before .before .before .before .before .before .before .before .before .before .before .before .before .before .before .before .args .row .now) _) ∙ w, o, omega arith)
+    let k = c .before .before .before .before .before .before .before in
+    let (a, w) = judged (accepted-at-blank (blank-at-take-in k)) in
+    (a .fit, ap length (take-at (k .take-in .last .1 .0) _ _ (read-long k)) ∙ read-long k ∙ w, a .out-wide, a .within)
 
 same-length-5 : tie.Need-same-length-5
-same-length-5 c = c .before .before .before .before .before .before .before .before .before .before .before .advance .kept .1 .1 .0
+same-length-5 c = search needs
 
 same-length-6 : tie.Need-same-length-6
-same-length-6 c = c .before .before .before .before .before .before .before .before .before .before .before .advance .kept .1 .1 .1 .0
+same-length-6 c = search needs
 
 same-length-7 : tie.Need-same-length-7
-same-length-7 c = c .before .before .before .before .before .before .before .before .before .before .before .advance .kept .1 .1 .1 .1 .0
+same-length-7 c = search needs
 
 same-length-8 : tie.Need-same-length-8
-same-length-8 c = c .before .before .before .before .before .before .before .before .before .before .before .advance .kept .1 .1 .1 .1 .1 .0
+same-length-8 c = search needs
 
 same-length-9 : tie.Need-same-length-9
-same-length-9 c = c .before .before .before .before .before .before .before .before .before .before .before .advance .kept .1 .1 .1 .1 .1 .1 .0
+same-length-9 c = search needs
 
 returns-3 : tie.Need-returns-3
 returns-3 c =
-    accepts-row rates 1 (c .before .before .before .before .before .before .before .before .before .before .before .before .before .before .before .before .before .before .before .before .before .before .before .before .before .before .before .before .before .before .before .before .before .before .args .state) (record { values = c .before .before .before .before .before .before .before .before .before .before .before .before .before .before .before .before .before .before .before .before .before .before .before .before .before .before .before .before .before .before .before .before .before .before .args .values .now; positions = c .before .before .before .before .before .before .before .before .before .before .before .before .before .before .before .before .before .before .before .before .before .before .before .before .before .before .before .before .before .before .before .before .before .before .args .positions .now; starts = c .before .before .before .before .before .before .before .before .before .before .before .before .before .before .before .before .before .before .before .before .before .before .before .before .before .before .before .before .before .before .before .before .before .before .args .starts .now; lengths = c .before .before .before .before .before .before .before .before .before .before .before .before .before .before .before .before .before .before .before .before .before .before .before .before .before .before .before .before .before .before .before .before .before .before .args .lengths .now }) _ _ _ _ _ _ (sym (c .before .before .before .before .before .before .before .before .before .before .before .before .before .before .before .before .before .before .before .before .before .before .before .before .before .judge-row .ensures) ∙ c .before .before .before .before .before .before .before .before .before .before .before .before .before .before .before .before .before .before .before .before .before .before .before .before .if1 .left) (is-all (c .before .before .before .before .before .before .before .before .before .before .before .before .before .before .before .before .before .before .before .before .before .before .before .before .before .before .before .before .before .before .before .before .before .before .args .row .now) _ (c .before .before .before .before .before .before .before .before .before .before .before .before .before .before .before .before .before .before .before .before .before .before .before .first-not-finite .ensures) (c .before .before .before .before .before .before .before .before .before .before .before .before .before .before .before .before .before .before .before .before .before .before .if2 .left))
-    (advanced-as rates _ _ _ _ _ _ _ _ _ (take-at (c .before .before .before .before .before .before .before .before .before .before .before .before .before .before .before .before .before .before .before .take-in .last .1 .0) _ _ (ap length (c .before .before .before .before .before .before .before .before .before .before .before .before .before .before .before .before .before .before .before .take-in .ensures) ∙ length-map (c .before .before .before .before .before .before .before .before .before .before .before .before .before .before .before .before .before .before .before .before .before .before .before .before .before .before .before .before .before .before .before .before .before .before .args .row .now) _) ∙ c .before .before .before .before .before .before .before .before .before .before .before .before .before .before .before .before .before .before .before .take-in .ensures) (c .before .before .before .before .before .before .before .before .before .before .before .advance .ensures))
+    let d = c .before .before .before .before .before .before .before .before .before .before .before in
+    let k = d .before .before .before .before .before .before .before .before in
+    let n = blank-at-take-in k in
+    let a = accepted-at-blank n in
+    let s = start-at-blank n in
+    accepts-row rates 1 (s .args .state) (lent s) _ _ _ _ _ _ (sym (a .before .judge-row .ensures) ∙ a .if1 .left) (is-all rates (s .args .row .now) _ (n .before .before .first-not-finite .ensures) (n .before .if2 .left))
+    (advanced-as rates _ _ _ _ _ _ _ _ _ (take-at (k .take-in .last .1 .0) _ _ (read-long k) ∙ k .take-in .ensures) (d .advance .ensures))
 
 pub row-spec : {M : Type 1} → statement M
 row-spec =
     tie.close
     (tie.spec
-    judge-row-requires
-    refuses-requires
-    same-length
-    same-length-2
-    returns
-    first-not-finite-requires
-    refuses-requires-2
-    same-length-3
-    same-length-4
-    returns-2
-    blank-requires
-    array-borrow-prefix-room
-    slice-aggregate-take-in
-    take-in-requires
-    array-borrow-prefix-room-2
-    slice-aggregate-advance
-    advance-requires
-    same-length-5
-    same-length-6
-    same-length-7
-    same-length-8
-    same-length-9
-    returns-3)
+    judge-row-requires refuses-requires same-length same-length-2 returns first-not-finite-requires refuses-requires-2 same-length-3 same-length-4 returns-2
+    blank-requires array-borrow-prefix-room slice-aggregate-take-in take-in-requires array-borrow-prefix-room-2 slice-aggregate-advance advance-requires
+    same-length-5 same-length-6 same-length-7 same-length-8 same-length-9 returns-3)

@@ -1,7 +1,7 @@
 -- Kind first, then the extents.
 use mathlib.Core.Path.{_∙_, sym}
 use borrow.Author.Tests.{lt-ltb, le-ltb}
-use Rattle.plan_record.proofs.Numbers.{first-one}
+use Rattle.morph.proofs.Numbers.{first-one}
 use borrow.Author.Needs.{needs}
 use Rattle.plan_read.proofs.judge_stage.Statement.{statement}
 use Rattle.plan_read.proofs.judge_stage.Tie as tie

@@ -1,7 +1,7 @@
 -- What is left to judge decides.
 use mathlib.Core.Path.{refl, _∙_, sym}
 use Prim.Native.Nat.{_-_, _*_, _≤_}
-use Rattle.plan_record.proofs.Numbers.{Judging, judging-next, judging-found, judging-last}
+use Rattle.morph.proofs.Numbers.{Judging, judging-next, judging-found, judging-last}
 use Rattle.plan_record.specs.Plan.{stageNumber, stagesNumber}
 use native.Mathlib.Omega.{arith}
 use Rattle.plan_read.proofs.judge_stages.Statement.{statement}

@@ -2,7 +2,7 @@
 use mathlib.Core.Path.{refl, _∙_, sym}
 use Prim.Native.Nat.{_-_, _≤_}
 use lib.ListN.{getD}
-use Rattle.plan_record.proofs.Numbers.{Judging, judging-next, judging-found, judging-last}
+use Rattle.morph.proofs.Numbers.{Judging, judging-next, judging-found, judging-last}
 use Rattle.plan_record.proofs.Laws.{count-refused, count-accepted}
 use Rattle.plan_record.proofs.Named.{counted}
 use Rattle.plan_record.specs.Plan.{unused, recordStageNumber, recordStagesNumber, recordNumber}

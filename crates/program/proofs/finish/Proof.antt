@@ -40,14 +40,5 @@ pub finish-spec : {M : Type 1} → statement M
 finish-spec =
     tie.close
     (tie.spec
-    enum-told
-    slice-aggregate-read-full
-    read-full-requires
-    judge-tail-requires
-    put-end-requires
-    enum-known-course
-    refuse-requires
-    enum-told-2
-    returns
-    returns-2
+    enum-told slice-aggregate-read-full read-full-requires judge-tail-requires put-end-requires enum-known-course refuse-requires enum-told-2 returns returns-2
     returns-3)

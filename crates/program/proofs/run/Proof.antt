@@ -40,13 +40,15 @@ write-all-requires c κs = search needs
 
 run-rows-requires : tie.Need-run-rows-requires
 run-rows-requires c κs =
-    let (few, long, judged) = c .before .before .before .before .before .before .before .before .before .before .before .before .before .before .read-plan .ensures in
-    let e = c .before .before .before .before .before .before .judge-image .ensures in
-    let z = c .before .before .before .before .if2 .left in
-    (few, head-known _ _ _ (e .0) z, e .1, start-known _ _ _ long (judged (c .before .before .before .before .before .before .before .before .before .before .before .before .if1 .left)) (e .0) z)
+    let at-if2 = c .before .before .before .before in
+    let at-if1 = at-if2 .before .before .before .before .before .before .before .before in
+    let (few, long, judged) = at-if1 .before .before .read-plan .ensures in
+    let e = at-if2 .before .before .judge-image .ensures in
+    let z = at-if2 .if2 .left in
+    (few, head-known _ _ _ (e .0) z, e .1, start-known _ _ _ long (judged (at-if1 .if1 .left)) (e .0) z)
 
 finish-requires : tie.Need-finish-requires
-finish-requires c κs = gone-over _ _ _ _ (c .run-rows .ensures)
+finish-requires c κs = gone-over (c .before .before .before .before .before .before .before .before .before .before .before .before .before .before .before .read-plan .result .plan) _ _ _ (c .run-rows .ensures)
 
 returns-3 : tie.Need-returns-3
 returns-3 c = search needs
@@ -58,18 +60,5 @@ pub run-spec : {M : Type 1} → statement M
 run-spec =
     tie.close
     (tie.spec
-    read-plan-requires
-    refuse-requires
-    returns
-    slice-aggregate-read-full
-    read-full-requires
-    judge-image-requires
-    refuse-requires-2
-    returns-2
-    opening-requires
-    slice-aggregate-write-all
-    write-all-requires
-    run-rows-requires
-    finish-requires
-    returns-3
-    returns-4)
+    read-plan-requires refuse-requires returns slice-aggregate-read-full read-full-requires judge-image-requires refuse-requires-2 returns-2 opening-requires
+    slice-aggregate-write-all write-all-requires run-rows-requires finish-requires returns-3 returns-4)

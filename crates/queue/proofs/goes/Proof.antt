@@ -2,7 +2,7 @@
 use native.Mathlib.Omega.{arith}
 use borrow.Author.Needs.{needs}
 use borrow.Author.Tests.{eq-eqb, ne-eqb, le-leb, lt-leb}
-use Rattle.queue.specs.Queue.{goesOf}
+use Rattle.queue.specs.Inner.{goesOf}
 use Rattle.queue.proofs.goes.Statement.{statement}
 use Rattle.queue.proofs.goes.Tie as tie
 

@@ -1,4 +1,4 @@
--- `queue::grey::push` meets its contract: the entry is stored at the room's place.
+-- `queue::grey::push` meets its contract: the push within a window, by the law of an entry stored at the room's place.
 use native.Mathlib.Omega.{arith}
 use borrow.Author.Needs.{needs}
 use Rattle.sample.specs.Samples.{greys}
@@ -9,20 +9,11 @@ use Rattle.queue_grey.proofs.push.Tie as tie
 slot-requires : tie.Need-slot-requires
 slot-requires c κs = search needs
 
-room-requires : tie.Need-room-requires
-room-requires c κs = search needs
+push-within-requires : tie.Need-push-within-requires
+push-within-requires c κs = search needs
 
-slice-write-values : tie.Need-slice-write-values
-slice-write-values c = search needs
-
-mul-positions : tie.Need-mul-positions
-mul-positions c = search needs
-
-slice-write-positions : tie.Need-slice-write-positions
-slice-write-positions c = search needs
-
-add-t16 : tie.Need-add-t16
-add-t16 c = search needs
+add-t14 : tie.Need-add-t14
+add-t14 c = search needs
 
 same-length : tie.Need-same-length
 same-length c = search needs
@@ -31,18 +22,11 @@ same-length-2 : tie.Need-same-length-2
 same-length-2 c = search needs
 
 returns : tie.Need-returns
-returns c = room-pushed greys _ _ _ _ _ _ _ _ (c .before .room .ensures) (omega arith)
+returns c =
+    let p = c .before .before .before .before .before .push-within .ensures in
+    rw (p .1, p .2) (room-pushed greys _ _ _ _ _ _ _ _ (p .0) (omega arith))
 
 pub push-spec : {M : Type 1} → statement M
 push-spec =
     tie.close
-    (tie.spec
-    slot-requires
-    room-requires
-    slice-write-values
-    mul-positions
-    slice-write-positions
-    add-t16
-    same-length
-    same-length-2
-    returns)
+    (tie.spec slot-requires push-within-requires add-t14 same-length same-length-2 returns)

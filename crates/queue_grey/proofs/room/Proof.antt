@@ -33,8 +33,8 @@ returns c =
 next-requires : tie.Need-next-requires
 next-requires c κs = search needs
 
-sub-t14 : tie.Need-sub-t14
-sub-t14 c = search needs
+sub-t15 : tie.Need-sub-t15
+sub-t15 c = search needs
 
 returns-2 : tie.Need-returns-2
 returns-2 c =
@@ -54,5 +54,5 @@ room-spec =
     goes-requires
     returns
     next-requires
-    sub-t14
+    sub-t15
     returns-2)

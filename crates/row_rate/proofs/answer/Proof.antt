@@ -1,7 +1,7 @@
 -- `answer` meets its contract, by the test that led to each end.
 use borrow.Author.Needs.{needs}
 use borrow.Author.Tests.{le-leb, lt-leb}
-use Rattle.row.specs.Row.{answered}
+use Rattle.row.specs.Inner.{answerPut}
 use Rattle.row_rate.proofs.answer.Statement.{statement}
 use Rattle.row_rate.proofs.answer.Tie as tie
 
@@ -15,11 +15,11 @@ same-length : tie.Need-same-length
 same-length c = search needs
 
 returns : tie.Need-returns
-unfolding answered
+unfolding answerPut
 returns c = simp (le-leb _ _ (c .if1 .taken))
 
 returns-2 : tie.Need-returns-2
-unfolding answered
+unfolding answerPut
 returns-2 c = simp (lt-leb _ _ (c .if1 .left))
 
 pub answer-spec : {M : Type 1} → statement M

@@ -34,12 +34,4 @@ pub read-all-spec : {M : Type 1} → statement M
 read-all-spec =
     tie.close
     (tie.spec
-    empty-requires
-    enum-told
-    read-row-requires
-    enum-told-2
-    read-row-requires-2
-    same-length
-    returns
-    same-length-2
-    returns-2)
+    empty-requires enum-told read-row-requires enum-told-2 read-row-requires-2 same-length returns same-length-2 returns-2)

@@ -24,13 +24,19 @@ same-length-5 : tie.Need-same-length-5
 same-length-5 c = search needs
 
 returns : tie.Need-returns
-returns c = taken-moved greys _ _ _ _ _ _ _ _ (c .before .before .before .before .before .before .before .before .before .before .before .before .before .before .before .before .if1 .taken) (c .before .before .before .before .before .before .before .before .before .before .take-row .ensures)
+returns c =
+    let at-take-row = c .before .before .before .before .before .before .before .before .before .before in
+    let at-if1 = at-take-row .before .before .before .before .before .before in
+    taken-moved greys _ _ _ _ _ _ _ _ (at-if1 .if1 .taken) (at-take-row .take-row .ensures)
 
 size-of-requires : tie.Need-size-of-requires
 size-of-requires c κs = search needs
 
 drain-requires : tie.Need-drain-requires
-drain-requires c κs = lent-as _ _ _ _ _ _ _ (c .before .before .before .size-of .ensures .0) (c .before .before .before .before .before .before .before .before .before .before .pre .2 .starts-long) (c .before .before .before .before .before .before .before .before .before .before .pre .2)
+drain-requires c κs =
+    let at-size-of = c .before .before .before in
+    let start = at-size-of .before .before .before .before .before .before .before in
+    lent-as _ _ _ _ _ _ _ (at-size-of .size-of .ensures .0) (start .pre .2 .starts-long) (start .pre .2)
 
 same-length-6 : tie.Need-same-length-6
 same-length-6 c = search needs
@@ -43,22 +49,14 @@ same-length-8 c = search needs
 
 returns-2 : tie.Need-returns-2
 returns-2 c =
-    drained-moved greys _ _ _ _ _ _ _ (c .before .before .before .before .before .before .before .before .before .if1 .left) (c .before .before .before .before .before .before .before .before .before .before .before .before .before .before .before .pre .4) (c .before .before .before .before .before .before .before .before .before .before .before .before .before .before .before .pre .2 .starts-long) (rw (c .before .before .before .before .before .before .before .before .size-of .ensures .0) at (c .before .before .before .before .drain .ensures .0))
+    let at-drain = c .before .before .before .before in
+    let at-size-of = at-drain .before .before .before .before in
+    let start = at-size-of .before .before .before .before .before .before .before in
+    drained-moved greys _ _ _ _ _ _ _ (at-size-of .before .if1 .left) (start .pre .4) (start .pre .2 .starts-long) (rw (at-size-of .size-of .ensures .0) at (at-drain .drain .ensures .0))
 
 pub move-on-spec : {M : Type 1} → statement M
 move-on-spec =
     tie.close
     (tie.spec
-    take-row-requires
-    same-length
-    same-length-2
-    same-length-3
-    same-length-4
-    same-length-5
-    returns
-    size-of-requires
-    drain-requires
-    same-length-6
-    same-length-7
-    same-length-8
-    returns-2)
+    take-row-requires same-length same-length-2 same-length-3 same-length-4 same-length-5 returns size-of-requires drain-requires same-length-6 same-length-7
+    same-length-8 returns-2)

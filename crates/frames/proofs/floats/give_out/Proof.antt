@@ -56,17 +56,5 @@ pub give-out-spec : {M : Type 1} → statement M
 give-out-spec =
     tie.close
     (tie.spec
-    Inv-loop
-    μ-loop
-    slice-write-frame
-    loop-holds
-    mul-to-bytes
-    shared-slice-read-to-bytes
-    mul-to-bytes-2
-    add-to-bytes
-    to-bytes-requires
-    add-i
-    loop-less
-    loop-again
-    same-length
-    returns)
+    Inv-loop μ-loop slice-write-frame loop-holds mul-to-bytes shared-slice-read-to-bytes mul-to-bytes-2 add-to-bytes to-bytes-requires add-i loop-less
+    loop-again same-length returns)

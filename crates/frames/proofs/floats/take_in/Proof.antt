@@ -5,7 +5,7 @@ use native.Mathlib.Omega.{arith}
 use lib.ListN.{length}
 use lib.Ieee.{nan}
 use Rattle.sample.proofs.Rows.{Filling, fill-start, fill-next, fill-end}
-use Rattle.frames.specs.Floats.{floatsOf}
+use Rattle.frames.specs.Inner.{floatsOf}
 use Rattle.frames.proofs.Bytes.{length-floats, getD-floats}
 use Rattle.frames.proofs.floats.take_in.Statement.{statement}
 use Rattle.frames.proofs.floats.take_in.Tie as tie
@@ -60,15 +60,4 @@ pub take-in-spec : {M : Type 1} → statement M
 take-in-spec =
     tie.close
     (tie.spec
-    Inv-loop
-    μ-loop
-    loop-holds
-    mul-from-bytes
-    from-bytes-requires
-    mul-row
-    slice-write-row
-    add-i
-    loop-less
-    loop-again
-    same-length
-    returns)
+    Inv-loop μ-loop loop-holds mul-from-bytes from-bytes-requires mul-row slice-write-row add-i loop-less loop-again same-length returns)

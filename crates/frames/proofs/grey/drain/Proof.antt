@@ -25,7 +25,10 @@ drain-requires : tie.Need-drain-requires
 drain-requires c κs = search needs
 
 same-length : tie.Need-same-length
-same-length c = c .before .before .before .before .before .before .before .before .before .frame .given .1 ∙ length-set (c .before .before .before .before .before .before .before .before .before .before .before .before .before .before .before .before .before .before .before .before .before .args .frame .now) 0 1
+same-length c =
+    let at-frame = c .before .before .before .before .before .before .before .before .before in
+    let start = at-frame .before .before .before .before .before .before .before .before .before .before .before .before in
+    at-frame .frame .given .1 ∙ length-set (start .args .frame .now) 0 1
 
 same-length-2 : tie.Need-same-length-2
 same-length-2 c = search needs
@@ -41,25 +44,17 @@ same-length-5 c = search needs
 
 returns : tie.Need-returns
 returns c =
-    let f = c .before .before .before .before .before .before .before .before .before .before .before .before .before .before .before .before .before .before .before .before .before .args .frame .now in
-    let p = c .before .before .before .before .before .before .before .before .before .before .before .before .before .before .before .before .before .before .before .before .before .pre in
+    let at-drain = c .before .before .before .before .before .before .before .before .before .before in
+    let start = at-drain .before .before .before .before .before .before .before .before .before .before .before in
+    let f = start .args .frame .now in
+    let p = start .pre in
     let k = length (set f 0 1) - 1 in
     let e : k ≡ length f - 1 = omega (arith, length-set f 0 1) in
-    let ys = c .before .before .before .before .before .before .before .before .before .before .drain .last .1 .0 in
-    (frame-mark f ys k p, drain-framed greys (frame-part f k p e) (sym (frame-row f ys k p e)) (c .before .before .before .before .before .before .before .before .before .before .drain .ensures))
+    let ys = at-drain .drain .last .1 .0 in
+    (frame-mark f ys k p, drain-framed greys (frame-part f k p e) (sym (frame-row f ys k p e)) (at-drain .drain .ensures))
 
 pub drain-spec : {M : Type 1} → statement M
 drain-spec =
     tie.close
     (tie.spec
-    slice-write-frame
-    sub-drain
-    part-drain-start
-    part-drain-end
-    drain-requires
-    same-length
-    same-length-2
-    same-length-3
-    same-length-4
-    same-length-5
-    returns)
+    slice-write-frame sub-drain part-drain-start part-drain-end drain-requires same-length same-length-2 same-length-3 same-length-4 same-length-5 returns)

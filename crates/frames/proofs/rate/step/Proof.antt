@@ -30,18 +30,13 @@ same-length-6 : tie.Need-same-length-6
 same-length-6 c = search needs
 
 returns : tie.Need-returns
-returns c = row-of rates (c .before .before .before .before .before .before .before .before .before .before .before .before .before .before .before .before .before .before .before .take-in .ensures) (c .before .before .before .before .before .before .before .before .before .before .row2 .ensures)
+returns c =
+    let at-row2 = c .before .before .before .before .before .before .before .before .before .before in
+    let at-take-in = at-row2 .before .before .before .before .before .before .before .before .before in
+    row-of rates (at-take-in .take-in .ensures) (at-row2 .row2 .ensures)
 
 pub step-spec : {M : Type 1} → statement M
 step-spec =
     tie.close
     (tie.spec
-    take-in-requires
-    row-requires
-    same-length
-    same-length-2
-    same-length-3
-    same-length-4
-    same-length-5
-    same-length-6
-    returns)
+    take-in-requires row-requires same-length same-length-2 same-length-3 same-length-4 same-length-5 same-length-6 returns)

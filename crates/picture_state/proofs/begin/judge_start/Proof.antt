@@ -24,17 +24,21 @@ judge-size-requires c κs = search needs
 
 returns-3 : tie.Need-returns-3
 returns-3 c =
-    start-size _ _ _ _ _ _ (sym (c .before .before .before .before .before .judge .ensures) ∙ c .before .before .before .before .if1 .left) (sym (c .before .before .before .judge-sample .ensures) ∙ c .before .before .if2 .left) _ (c .before .judge-size .ensures) (c .if3 .taken)
+    let at-judge-sample = c .before .before .before in
+    start-size _ _ _ _ _ _ (sym (at-judge-sample .before .before .judge .ensures) ∙ at-judge-sample .before .if1 .left) (sym (at-judge-sample .judge-sample .ensures) ∙ c .before .before .if2 .left) _ (c .before .judge-size .ensures) (c .if3 .taken)
 
 judge-memory-requires : tie.Need-judge-memory-requires
 judge-memory-requires c κs =
-    let p = plan-accepted _ (sym (c .before .before .before .before .before .judge .ensures) ∙ c .before .before .before .before .if1 .left) in
-    let (_, w, _, _) = size-accepted (c .before .before .before .before .before .before .args .width) (c .before .before .before .before .before .before .args .rows) (sym (c .before .judge-size .ensures) ∙ c .if3 .left) in
+    let at-if1 = c .before .before .before .before in
+    let p = plan-accepted _ (sym (at-if1 .before .judge .ensures) ∙ at-if1 .if1 .left) in
+    let (_, w, _, _) = size-accepted (at-if1 .before .before .args .width) (at-if1 .before .before .args .rows) (sym (c .before .judge-size .ensures) ∙ c .if3 .left) in
     (p .few, w)
 
 returns-4 : tie.Need-returns-4
 returns-4 c =
-    start-memory _ _ _ _ _ _ (sym (c .before .before .before .before .before .before .judge .ensures) ∙ c .before .before .before .before .before .if1 .left) (sym (c .before .before .before .before .judge-sample .ensures) ∙ c .before .before .before .if2 .left) (sym (c .before .before .judge-size .ensures) ∙ c .before .if3 .left) _ (c .judge-memory .ensures)
+    let at-if2 = c .before .before .before in
+    let at-judge = at-if2 .before .before .before in
+    start-memory _ _ _ _ _ _ (sym (at-judge .judge .ensures) ∙ at-if2 .before .before .if1 .left) (sym (at-if2 .before .judge-sample .ensures) ∙ at-if2 .if2 .left) (sym (c .before .before .judge-size .ensures) ∙ c .before .if3 .left) _ (c .judge-memory .ensures)
 
 pub judge-start-spec : {M : Type 1} → statement M
 judge-start-spec = tie.close (tie.spec judge-requires returns judge-sample-requires returns-2 judge-size-requires returns-3 judge-memory-requires returns-4)

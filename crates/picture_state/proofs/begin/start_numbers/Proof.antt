@@ -23,7 +23,10 @@ same-length-2 : tie.Need-same-length-2
 same-length-2 c = search needs
 
 returns-2 : tie.Need-returns-2
-returns-2 c = numbers-went _ _ _ _ _ _ _ _ (c .before .before .before .before .before .before .before .before .before .read .ensures) _ _ _ _ _ (c .before .before .before .before .before .before .before .before .if1 .left) (c .before .before .before .before .start .ensures)
+returns-2 c =
+    let at-start = c .before .before .before .before in
+    let at-if1 = at-start .before .before .before .before in
+    numbers-went _ _ _ _ _ _ _ _ (at-if1 .before .read .ensures) _ _ _ _ _ (at-if1 .if1 .left) (at-start .start .ensures)
 
 pub start-numbers-spec : {M : Type 1} → statement M
 start-numbers-spec = tie.close (tie.spec read-requires not-started-requires returns start-requires same-length same-length-2 returns-2)

@@ -18,26 +18,30 @@ returns : tie.Need-returns
 returns c = offer-lent _ _ _ _ _ _ _ _ _ (rw (c .before .before .before .shorter .ensures, c .before .before .shorter2 .ensures) at (c .before .judge .ensures)) (c .if1 .taken)
 
 returns-2 : tie.Need-returns-2
-returns-2 c = offer-nine _ _ _ _ _ _ _ _ (sym (rw (c .before .before .before .before .before .shorter .ensures, c .before .before .before .before .shorter2 .ensures) at (c .before .before .before .judge .ensures)) ∙ c .before .before .if1 .left) (c .if2 .taken)
+returns-2 c =
+    let at-judge = c .before .before .before in
+    offer-nine _ _ _ _ _ _ _ _ (sym (rw (at-judge .before .before .shorter .ensures, at-judge .before .shorter2 .ensures) at (at-judge .judge .ensures)) ∙ c .before .before .if1 .left) (c .if2 .taken)
 
 returns-3 : tie.Need-returns-3
-returns-3 c = offer-row _ _ _ _ _ _ _ _ (sym (rw (c .before .before .before .before .before .before .before .shorter .ensures, c .before .before .before .before .before .before .shorter2 .ensures) at (c .before .before .before .before .before .judge .ensures)) ∙ c .before .before .before .before .if1 .left) (c .before .before .if2 .left) (c .if3 .taken)
+returns-3 c =
+    let at-if1 = c .before .before .before .before in
+    let at-shorter = at-if1 .before .before .before in
+    offer-row _ _ _ _ _ _ _ _ (sym (rw (at-shorter .shorter .ensures, at-if1 .before .before .shorter2 .ensures) at (at-if1 .before .judge .ensures)) ∙ at-if1 .if1 .left) (c .before .before .if2 .left) (c .if3 .taken)
 
 returns-4 : tie.Need-returns-4
-returns-4 c = offer-out _ _ _ _ _ _ _ _ (sym (rw (c .before .before .before .before .before .before .before .before .before .shorter .ensures, c .before .before .before .before .before .before .before .before .shorter2 .ensures) at (c .before .before .before .before .before .before .before .judge .ensures)) ∙ c .before .before .before .before .before .before .if1 .left) (c .before .before .before .before .if2 .left) (c .before .before .if3 .left) (c .if4 .taken)
+returns-4 c =
+    let at-if2 = c .before .before .before .before in
+    let at-judge = at-if2 .before .before .before in
+    offer-out _ _ _ _ _ _ _ _ (sym (rw (at-judge .before .before .shorter .ensures, at-judge .before .shorter2 .ensures) at (at-judge .judge .ensures)) ∙ at-if2 .before .before .if1 .left) (at-if2 .if2 .left) (c .before .before .if3 .left) (c .if4 .taken)
 
 returns-5 : tie.Need-returns-5
-returns-5 c = offer-all _ _ _ _ _ _ _ _ (sym (rw (c .before .before .before .before .before .before .before .before .before .shorter .ensures, c .before .before .before .before .before .before .before .before .shorter2 .ensures) at (c .before .before .before .before .before .before .before .judge .ensures)) ∙ c .before .before .before .before .before .before .if1 .left) (c .before .before .before .before .if2 .left) (c .before .before .if3 .left) (c .if4 .left)
+returns-5 c =
+    let at-if2 = c .before .before .before .before in
+    let at-judge = at-if2 .before .before .before in
+    offer-all _ _ _ _ _ _ _ _ (sym (rw (at-judge .before .before .shorter .ensures, at-judge .before .shorter2 .ensures) at (at-judge .judge .ensures)) ∙ at-if2 .before .before .if1 .left) (at-if2 .if2 .left) (c .before .before .if3 .left) (c .if4 .left)
 
 pub judge-row-spec : {M : Type 1} → statement M
 judge-row-spec =
     tie.close
     (tie.spec
-    shorter-requires
-    shorter-requires-2
-    judge-requires
-    returns
-    returns-2
-    returns-3
-    returns-4
-    returns-5)
+    shorter-requires shorter-requires-2 judge-requires returns returns-2 returns-3 returns-4 returns-5)

@@ -28,33 +28,38 @@ judge-size-requires c κs = search needs
 
 returns-3 : tie.Need-returns-3
 unfolding stateNumber
-returns-3 c = simp (← c .before .before .before .before .before .judge .ensures, eq-eqb _ 0 (c .before .before .before .before .if1 .left), ← c .before .before .before .judge-sample .ensures, eq-eqb _ 0 (c .before .before .if2 .left), ← c .before .judge-size .ensures, ne-eqb _ 0 (c .if3 .taken))
+returns-3 c =
+    let at-judge-sample = c .before .before .before in
+    simp (← at-judge-sample .before .before .judge .ensures, eq-eqb _ 0 (at-judge-sample .before .if1 .left), ← at-judge-sample .judge-sample .ensures, eq-eqb _ 0 (c .before .before .if2 .left), ← c .before .judge-size .ensures, ne-eqb _ 0 (c .if3 .taken))
 
 look-ahead-requires : tie.Need-look-ahead-requires
 look-ahead-requires c κs = plan-accepted _ (sym (c .before .before .before .before .before .judge .ensures) ∙ c .before .before .before .before .if1 .left) .few
 
 add-if4 : tie.Need-add-if4
-add-if4 c = omega (arith, c .before .look-ahead .ensures, ahead-few (c .before .before .before .before .before .before .before .before .before .args .state .plan) (plan-accepted _ (sym (c .before .before .before .before .before .before .before .judge .ensures) ∙ c .before .before .before .before .before .before .if1 .left)), size-accepted (c .before .before .before .before .before .before .before .before .before .args .state .width) (c .before .before .before .before .before .before .before .before .before .args .state .rows) (sym (c .before .before .before .judge-size .ensures) ∙ c .before .before .if3 .left))
+add-if4 c =
+    let at-judge-size = c .before .before .before in
+    let at-if1 = at-judge-size .before .before .before in
+    let start = at-if1 .before .before .before in
+    omega (arith, c .before .look-ahead .ensures, ahead-few (start .args .state .plan) (plan-accepted _ (sym (at-if1 .before .judge .ensures) ∙ at-if1 .if1 .left)), size-accepted (start .args .state .width) (start .args .state .rows) (sym (at-judge-size .judge-size .ensures) ∙ c .before .before .if3 .left))
 
 returns-4 : tie.Need-returns-4
 unfolding stateNumber
-returns-4 c = simp (← c .before .before .before .before .before .before .before .before .before .judge .ensures, eq-eqb _ 0 (c .before .before .before .before .before .before .before .before .if1 .left), ← c .before .before .before .before .before .before .before .judge-sample .ensures, eq-eqb _ 0 (c .before .before .before .before .before .before .if2 .left), ← c .before .before .before .before .before .judge-size .ensures, eq-eqb _ 0 (c .before .before .before .before .if3 .left), ← c .before .before .before .look-ahead .ensures, lt-ltb _ _ (c .if4 .taken))
+returns-4 c =
+    let at-look-ahead = c .before .before .before in
+    let at-if2 = at-look-ahead .before .before .before in
+    let at-judge = at-if2 .before .before .before in
+    simp (← at-judge .judge .ensures, eq-eqb _ 0 (at-if2 .before .before .if1 .left), ← at-if2 .before .judge-sample .ensures, eq-eqb _ 0 (at-if2 .if2 .left), ← at-look-ahead .before .before .judge-size .ensures, eq-eqb _ 0 (at-look-ahead .before .if3 .left), ← at-look-ahead .look-ahead .ensures, lt-ltb _ _ (c .if4 .taken))
 
 returns-5 : tie.Need-returns-5
 unfolding stateNumber
-returns-5 c = simp (← c .before .before .before .before .before .before .before .before .before .judge .ensures, eq-eqb _ 0 (c .before .before .before .before .before .before .before .before .if1 .left), ← c .before .before .before .before .before .before .before .judge-sample .ensures, eq-eqb _ 0 (c .before .before .before .before .before .before .if2 .left), ← c .before .before .before .before .before .judge-size .ensures, eq-eqb _ 0 (c .before .before .before .before .if3 .left), ← c .before .before .before .look-ahead .ensures, le-ltb _ _ (c .if4 .left))
+returns-5 c =
+    let at-look-ahead = c .before .before .before in
+    let at-if2 = at-look-ahead .before .before .before in
+    let at-judge = at-if2 .before .before .before in
+    simp (← at-judge .judge .ensures, eq-eqb _ 0 (at-if2 .before .before .if1 .left), ← at-if2 .before .judge-sample .ensures, eq-eqb _ 0 (at-if2 .if2 .left), ← at-look-ahead .before .before .judge-size .ensures, eq-eqb _ 0 (at-look-ahead .before .if3 .left), ← at-look-ahead .look-ahead .ensures, le-ltb _ _ (c .if4 .left))
 
 pub judge-state-spec : {M : Type 1} → statement M
 judge-state-spec =
     tie.close
     (tie.spec
-    judge-requires
-    returns
-    judge-sample-requires
-    returns-2
-    judge-size-requires
-    returns-3
-    look-ahead-requires
-    add-if4
-    returns-4
-    returns-5)
+    judge-requires returns judge-sample-requires returns-2 judge-size-requires returns-3 look-ahead-requires add-if4 returns-4 returns-5)

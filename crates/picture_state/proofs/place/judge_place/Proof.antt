@@ -18,13 +18,21 @@ returns : tie.Need-returns
 returns c = place-lent _ _ _ _ _ _ _ _ _ (rw (c .before .before .before .shorter .ensures, c .before .before .shorter2 .ensures) at (c .before .judge .ensures)) (c .if1 .taken)
 
 returns-2 : tie.Need-returns-2
-returns-2 c = place-stage _ _ _ _ _ _ _ _ (sym (rw (c .before .before .before .before .before .shorter .ensures, c .before .before .before .before .shorter2 .ensures) at (c .before .before .before .judge .ensures)) ∙ c .before .before .if1 .left) (c .if2 .taken)
+returns-2 c =
+    let at-judge = c .before .before .before in
+    place-stage _ _ _ _ _ _ _ _ (sym (rw (at-judge .before .before .shorter .ensures, at-judge .before .shorter2 .ensures) at (at-judge .judge .ensures)) ∙ c .before .before .if1 .left) (c .if2 .taken)
 
 returns-3 : tie.Need-returns-3
-returns-3 c = place-column _ _ _ _ _ _ _ _ (sym (rw (c .before .before .before .before .before .before .before .shorter .ensures, c .before .before .before .before .before .before .shorter2 .ensures) at (c .before .before .before .before .before .judge .ensures)) ∙ c .before .before .before .before .if1 .left) (c .before .before .if2 .left) (c .if3 .taken)
+returns-3 c =
+    let at-if1 = c .before .before .before .before in
+    let at-shorter = at-if1 .before .before .before in
+    place-column _ _ _ _ _ _ _ _ (sym (rw (at-shorter .shorter .ensures, at-if1 .before .before .shorter2 .ensures) at (at-if1 .before .judge .ensures)) ∙ at-if1 .if1 .left) (c .before .before .if2 .left) (c .if3 .taken)
 
 returns-4 : tie.Need-returns-4
-returns-4 c = place-all _ _ _ _ _ _ _ _ (sym (rw (c .before .before .before .before .before .before .before .shorter .ensures, c .before .before .before .before .before .before .shorter2 .ensures) at (c .before .before .before .before .before .judge .ensures)) ∙ c .before .before .before .before .if1 .left) (c .before .before .if2 .left) (c .if3 .left)
+returns-4 c =
+    let at-if1 = c .before .before .before .before in
+    let at-shorter = at-if1 .before .before .before in
+    place-all _ _ _ _ _ _ _ _ (sym (rw (at-shorter .shorter .ensures, at-if1 .before .before .shorter2 .ensures) at (at-if1 .before .judge .ensures)) ∙ at-if1 .if1 .left) (c .before .before .if2 .left) (c .if3 .left)
 
 pub judge-place-spec : {M : Type 1} → statement M
 judge-place-spec = tie.close (tie.spec shorter-requires shorter-requires-2 judge-requires returns returns-2 returns-3 returns-4)

@@ -1,3 +1,4 @@
+-- Inner: only contracts of inner functions, and proofs, cite what stands here; no promise of a public call is made of it.
 -- A row filtered in place: what stands in it and in its queue on the way, and at the end. Over a kind of samples K; a row's promise holds where its pixels are accepted ones.
 use mathlib.Core.Path.{_≡_}
 use mathlib.Core.Bool.{true, cond}
@@ -13,8 +14,8 @@ use Rattle.sample.specs.Samples.{Samples}
 use Rattle.queue.specs.Queue.{listed}
 
 -- the answer v of step t in its place, if step t has one
-unfoldable pub answered : {A : Type 0} → ℕ → ℕ → A → List A → List A
-answered ahead t v row = cond (leb ahead t) (set row (t - ahead) v) row
+unfoldable pub answerPut : {A : Type 0} → ℕ → ℕ → A → List A → List A
+answerPut ahead t v row = cond (leb ahead t) (set row (t - ahead) v) row
 
 module _ {A : Type 0} (K : Samples A) (kind : Kind) (back ahead : ℕ) (row : List A) where
   -- each pixel is one that is accepted

@@ -1,39 +1,20 @@
+-- Inner: only contracts of inner functions, and proofs, cite what stands here; no promise of a public call is made of it.
 -- One stage's own step in lent memory: what it makes of its queues and of the row, and its comparisons.
 use mathlib.Core.Path.{_≡_}
-use mathlib.Core.Bool.{true}
 use mathlib.Core.List.{List, []}
-use Prim.Native.Nat.{ℕ, _+_, _-_, _≤_, _<_, min}
+use Prim.Native.Nat.{ℕ, _+_, _-_, _≤_, _<_}
 use lib.ListN.{length, getD}
 use Rattle.morph.specs.Order.{backOf, aheadOf}
-use Rattle.morph.specs.Lists.{Each}
-use Rattle.morph.specs.Picture.{Picture, Wide, applyStage}
-use Rattle.morph.specs.Plan.{columnQueue, stageCost}
+use Rattle.morph.specs.Picture.{Picture, applyStage}
+use Rattle.morph.specs.Plan.{stageCost}
 use Rattle.sample.specs.Samples.{Samples}
-use Rattle.columns.specs.Columns.{Lent, RowRead, columnAt}
-use Rattle.row.specs.Row.{Across}
+use Rattle.row.specs.Inner.{Across}
 use Rattle.plan_record.specs.declared.Stage.{Stage}
 use Rattle.plan_record.specs.Plan.{filterOf, sizeOf, belowOf}
-
--- The memory lent: cells, a value and a position each, and column records, a start and a length each.
-pub record Memory (A : Type 0) : Type 0 where
-  pub values : List A
-  pub positions : List ℕ
-  pub starts : List ℕ
-  pub lengths : List ℕ
+use Rattle.memory.specs.Memory.{Memory, Whole, StageHolds}
+use Rattle.columns.specs.Inner.{Lent, RowRead}
 
 module _ {A : Type 0} (K : Samples A) where
-  -- a picture of W columns and H rows whose pixels are accepted ones, as they are read
-  pub record Whole (W H : ℕ) (p : Picture A) : Type 0 where
-    pub wide : Wide W p
-    pub high : length p ≡ H
-    pub good : Each (Each (λ a. K .good a ≡ true)) p
-
-  -- after t of the stage's own steps over p each column holds its queue; "before its step 0 its queues are empty, and after its last, H-1+F, they stay as they are"
-  abbrev pub StageHolds : Stage → ℕ → Picture A → ℕ → Memory A → Type 0
-  StageHolds s W p t M =
-      (x : ℕ) → x < W
-      → columnAt K (sizeOf s) (M .values) (M .positions) (M .starts) (M .lengths) x ≡ columnQueue (filterOf (K .order) s) x p (min t (length p + belowOf s))
-
   -- The stage's row t has gone across, and each column has read its pixel of what came of it.
   pub record RowTaken (s : Stage) (t : ℕ) (M : Memory A) (row : List A) (M′ : Memory A) (row′ : List A) (comparisons : ℕ) : Type 0 where
     pub across : ℕ
@@ -52,12 +33,12 @@ module _ {A : Type 0} (K : Samples A) where
     pub row-long : length row′ ≡ length row
     pub few : comparisons ≤ 516096
     pub told :
-        (p : Picture A) → Whole (length row) H p → StageHolds s (length row) p t M → (t < H → row ≡ getD p t [])
-        → StageHolds s (length row) p (t + 1) M′ × (comparisons ≡ stageCost (filterOf (K .order) s) (length row) p t)
+        (p : Picture A) → Whole K (length row) H p → StageHolds K s (length row) p t M → (t < H → row ≡ getD p t [])
+        → StageHolds K s (length row) p (t + 1) M′ × (comparisons ≡ stageCost (filterOf (K .order) s) (length row) p t)
 
   -- and the row that comes out is the stage's row t - F, where that is due
   pub record StageStep (s : Stage) (H t : ℕ) (M : Memory A) (row : List A) (M′ : Memory A) (row′ : List A) (comparisons : ℕ) : Type 0 where
     pub moved : StageMoved s H t M row M′ row′ comparisons
     pub comes :
-        (p : Picture A) → Whole (length row) H p → StageHolds s (length row) p t M → (t < H → row ≡ getD p t [])
+        (p : Picture A) → Whole K (length row) H p → StageHolds K s (length row) p t M → (t < H → row ≡ getD p t [])
         → belowOf s ≤ t → t < H + belowOf s → row′ ≡ getD (applyStage (filterOf (K .order) s) p) (t - belowOf s) []

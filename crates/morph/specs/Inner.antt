@@ -1,3 +1,4 @@
+-- Inner: only contracts of inner functions, and proofs, cite what stands here; no promise of a public call is made of it.
 -- A queue's step as it is done, on any contents: the entries at the tail that the new value equals or passes go, then the oldest if it is too old, then the new value
 -- comes last. On the queue of a run this is the next queue of the line, and the count is document 01's (proofs/Step.antt).
 use mathlib.Core.Bool.{Bool, cond}

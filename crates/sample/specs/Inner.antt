@@ -1,3 +1,4 @@
+-- Inner: only contracts of inner functions, and proofs, cite what stands here; no promise of a public call is made of it.
 -- "a float is 4 bytes, low byte first": the float of four bytes, and the four bytes of a float.
 -- The bit pattern in between is that of IEEE 754's binary32, which the library's `ofBits` reads and `toBits` writes.
 use mathlib.Core.List.{List, [], _∷_}
@@ -6,15 +7,15 @@ use lib.ListN.{getD}
 use lib.Ieee.{Float, binary32, ofBits, toBits}
 
 -- four bytes as one number, and a number below 2 ^ 32 as four bytes, low byte first
-abbrev pub numberOf : ℕ → ℕ → ℕ → ℕ → ℕ
-numberOf a b c d = a + b * 256 + c * 65536 + d * 16777216
+abbrev pub fourBytes : ℕ → ℕ → ℕ → ℕ → ℕ
+fourBytes a b c d = a + b * 256 + c * 65536 + d * 16777216
 
 abbrev pub digitsOf : ℕ → List ℕ
 digitsOf n = n % 256 ∷ n / 256 % 256 ∷ n / 65536 % 256 ∷ n / 16777216 ∷ []
 
 -- the float of four bytes; each pattern of a NaN is read as the one NaN, which is not finite
 abbrev pub floatOf : ℕ → ℕ → ℕ → ℕ → Float
-floatOf a b c d = ofBits binary32 (numberOf a b c d)
+floatOf a b c d = ofBits binary32 (fourBytes a b c d)
 
 -- the float whose bytes stand at a place
 abbrev pub floatAt : List ℕ → ℕ → Float

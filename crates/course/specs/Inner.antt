@@ -1,15 +1,16 @@
+-- Inner: only contracts of inner functions, and proofs, cite what stands here; no promise of a public call is made of it.
 -- What the program's loops promise of a run: a refusal ends it with its number, which is not 0, and a run that goes on has taken all its steps.
 use mathlib.Core.Path.{_≡_}
 use mathlib.Core.List.{[], _∷_}
 use mathlib.Core.Logic.{_⊎_}
 use Prim.Native.Nat.{ℕ, _+_, _≤_}
-use Rattle.plan_record.specs.Numbers.{firstOf}
+use Rattle.morph.specs.Numbers.{firstOf}
 use Rattle.plan_record.specs.Plan.{planAhead}
 use Rattle.picture_state.specs.declared.State.{State}
 use Rattle.picture_state.specs.Step.{nextState}
 use Rattle.groups.specs.declared.Next.{Next}
 use Rattle.groups.specs.declared.Next.the-variants.{Write, Wait, End}
-use Rattle.groups.specs.Groups.{groupNumber}
+use Rattle.groups.specs.Inner.{groupNumber}
 use Rattle.course.specs.declared.Course.{Course}
 use Rattle.course.specs.declared.Course.the-variants.{On, Ends, Lost}
 use Rattle.course.specs.declared.Turn.{Turn}
@@ -21,10 +22,10 @@ abbrev pub Onward : Course → Type 0
 Onward course = (course ≡ On) ⊎ (course ≡ Lost)
 
 -- "A refusal in a row ends output there, with 0 and the number": an end is an end with that number; a row that is written never ends a run, and one that is not yet due lets it go on.
-abbrev pub Follows : Next → Course → Type 0
-Follows Write course = Onward course
-Follows Wait course = course ≡ On
-Follows (End number) course = course ≡ Ends number
+abbrev pub CourseAfter : Next → Course → Type 0
+CourseAfter Write course = Onward course
+CourseAfter Wait course = course ≡ On
+CourseAfter (End number) course = course ≡ Ends number
 
 -- A step that is judged `number`. Refused: the run ends with that number, in the state as it was. Accepted: the state has one step more, and the run goes on or a write failed.
 pub record Turned (number : ℕ) (S : State) (T : Turn) : Type 0 where

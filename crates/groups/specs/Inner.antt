@@ -1,3 +1,4 @@
+-- Inner: only contracts of inner functions, and proofs, cite what stands here; no promise of a public call is made of it.
 -- What the program judges, group by group, and what a step's answer has it do.
 -- "It reads the count, judges it; the stages, judges them; the image head, judges 5, 4, 15; then row by row."
 use mathlib.Core.Bool.{cond}
@@ -5,12 +6,12 @@ use mathlib.Core.List.{List, [], _∷_}
 use Prim.Native.Nat.{ℕ, _*_}
 use lib.Dec.{eqb, ltb}
 use lib.ListN.{getD}
+use Rattle.morph.specs.Numbers.{given, firstOf}
 use Rattle.plan_record.specs.declared.Plan.{Plan}
-use Rattle.plan_record.specs.Numbers.{given, firstOf}
-use Rattle.plan_record.specs.Plan.{countNumber, cellsNeeded}
+use Rattle.plan_record.specs.Plan.{cellsNeeded, countNumber}
+use Rattle.picture_state.specs.Step.{RowSaid, row, notYet, refused}
 use Rattle.job_read.specs.Layout.{widthFrom}
 use Rattle.job_read.specs.Job.{missing, headNumber}
-use Rattle.picture_state.specs.Step.{Said, row, notYet, refused}
 use Rattle.groups.specs.declared.Next.{Next}
 use Rattle.groups.specs.declared.Next.the-variants.{Write, Wait, End}
 
@@ -39,7 +40,7 @@ imageNumber plan got head = firstOf (groupNumber got 5 ∷ headNumber head ∷ c
 -- ---- the steps
 
 -- "for each output row byte 1 and the row"; "A refusal in a row ends output there, with 0 and the number."
-abbrev pub nextOf : Said → Next
+abbrev pub nextOf : RowSaid → Next
 nextOf (row number comparisons) = Write
 nextOf (notYet comparisons) = Wait
 nextOf (refused number column) = End number

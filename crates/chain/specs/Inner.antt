@@ -1,37 +1,27 @@
+-- Inner: only contracts of inner functions, and proofs, cite what stands here; no promise of a public call is made of it.
 -- The stages of a plan on the memory lent: a stage owns the front of it, and the rest of the plan the rest, one look-ahead later.
 use mathlib.Core.Path.{_≡_}
-use mathlib.Core.Bool.{Bool, true, _&&_}
-use mathlib.Core.List.{List, [], _∷_, map}
+use mathlib.Core.Bool.{Bool, true}
+use mathlib.Core.List.{List, [], map}
 use Prim.Native.Nat.{ℕ, _+_, _-_, _*_, _≤_, _<_}
 use lib.Dec.{leb}
 use lib.ListN.{length, getD, take, drop}
 use Rattle.morph.specs.Lists.{Each}
-use Rattle.morph.specs.Picture.{Picture, applyStage, applyPlan}
+use Rattle.morph.specs.Picture.{Picture, applyPlan}
 use Rattle.morph.specs.Plan.{planCost}
 use Rattle.sample.specs.Samples.{Samples}
-use Rattle.columns.specs.Columns.{soundRecords}
 use Rattle.plan_record.specs.declared.Stage.{Stage}
 use Rattle.plan_record.specs.declared.Plan.{Plan}
-use Rattle.plan_record.specs.Plan.{Small, used, filterOf, sizeOf, belowOf, cellsOf, total}
-use Rattle.stage.specs.Stage.{Memory, Whole, StageHolds, StageStep}
+use Rattle.plan_record.specs.Inner.{Small}
+use Rattle.plan_record.specs.Plan.{used, filterOf, total, sizeOf, belowOf, cellsOf}
+use Rattle.memory.specs.Memory.{Memory, frontOf, behind, soundRecords, allSound, Whole, Holds}
+use Rattle.stage.specs.Inner.{StageStep}
 
 -- the stages of a plan from stage i on
 abbrev pub after : ℕ → Plan → List Stage
 after i plan = drop i (used plan)
 
--- "c+d+1 for both in a column", for all records of all stages
-unfoldable pub allSound : ℕ → List Stage → List ℕ → List ℕ → Bool
-allSound W [] starts lengths = true
-allSound W (s ∷ ss) starts lengths = soundRecords (sizeOf s) (take W starts) (take W lengths) && allSound W ss (drop W starts) (drop W lengths)
-
 module _ {A : Type 0} where
-  -- the front of the memory that is a stage's own, of that many cells and records, and the memory behind it
-  abbrev pub frontOf : ℕ → ℕ → Memory A → Memory A
-  frontOf cells W M = record { values = take cells (M .values); positions = take cells (M .positions); starts = take W (M .starts); lengths = take W (M .lengths) }
-
-  abbrev pub behind : ℕ → ℕ → Memory A → Memory A
-  behind cells W M = record { values = drop cells (M .values); positions = drop cells (M .positions); starts = drop W (M .starts); lengths = drop W (M .lengths) }
-
   -- the memory is just what these stages need for rows of W pixels, and its records are such as a step takes
   pub record Ready (ss : List Stage) (W : ℕ) (M : Memory A) : Type 0 where
     pub narrow : W ≤ 4096
@@ -68,11 +58,6 @@ module _ {A : Type 0} (K : Samples A) where
     pub stepped : StageStep K s H t (frontOf (cellsOf (length row) s) (length row) M) row (frontOf (cellsOf (length row) s) (length row) M′) row′ comparisons
     pub rest : behind (cellsOf (length row) s) (length row) M′ ≡ behind (cellsOf (length row) s) (length row) M
 
-  -- After t steps of a plan over p each column of each stage holds its queue; a stage's own steps are those after the look-ahead of the stages before it.
-  unfoldable pub Holds : List Stage → ℕ → Picture A → ℕ → Memory A → Type 0
-  Holds [] W p t M = Unit {0}
-  Holds (s ∷ ss) W p t M = StageHolds K s W p t (frontOf (cellsOf W s) W M) × Holds ss W (applyStage (filterOf (K .order) s) p) (t - belowOf s) (behind (cellsOf W s) W M)
-
   -- Step t of the plan of these stages. The memory stays such as a step takes. For every picture whose first t steps could have left this memory, and whose row t is
   -- the row given while there are rows: the memory holds what t + 1 steps leave, the comparisons are document 01's, and the row is row t - D of the plan applied to the
   -- whole picture, where that is due.
@@ -82,7 +67,7 @@ module _ {A : Type 0} (K : Samples A) where
     pub few : comparisons ≤ length ss * 516096
     pub when : due ≡ leb (total belowOf ss) t
     pub told :
-        (p : Picture A) → Whole K (length row) H p → Holds ss (length row) p t M → (t < H → row ≡ getD p t [])
-        → Holds ss (length row) p (t + 1) M′
+        (p : Picture A) → Whole K (length row) H p → Holds K ss (length row) p t M → (t < H → row ≡ getD p t [])
+        → Holds K ss (length row) p (t + 1) M′
         × (comparisons ≡ planCost (map (filterOf (K .order)) ss) (length row) p t)
         × (total belowOf ss ≤ t → t < H + total belowOf ss → row′ ≡ getD (applyPlan (map (filterOf (K .order)) ss) p) (t - total belowOf ss) [])
