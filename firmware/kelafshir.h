@@ -1,8 +1,8 @@
-/* The one-row filter for the scanner bench's firmware, for C99 and C++.
+/* The one-row filter for the scanner bench's firmware, and a whole job in memory, for C99 and C++.
  *
- * `rt staticlib firmware` proves the filter and writes target/staticlib/libfirmware.a for x86-64 Linux; link that. The
- * filter keeps nothing between calls and takes no memory but a little of the stack, so calls may run side by side. Of the
- * C library it may need memcpy and memset.
+ * `rt staticlib firmware` proves both and writes target/staticlib/libfirmware.a for x86-64 Linux; link that. Neither keeps
+ * anything between calls or takes memory but of the stack, the filter a little and a job about 90 KB, so calls may run
+ * side by side. Of the C library they may need memcpy and memset.
  */
 #ifndef KELAFSHIR_H
 #define KELAFSHIR_H
@@ -26,7 +26,8 @@ enum kelafshir_limit {
     KELAFSHIR_LONGEST_ROW = 65535
 };
 
-/* The numbers that a call or a job can be refused with. The one-row filter gives 0, 2, 3, 4 and 7 only. */
+/* The numbers that a call or a job can be refused with. The one-row filter gives 0, 2, 3, 4 and 7 only; a job in memory 0 to
+ * 6, 8, 13, 14 and 15. */
 enum kelafshir_number {
     KELAFSHIR_DONE = 0,
     KELAFSHIR_STAGE_COUNT = 1,      /* the stage count is 0 or over 16 */
@@ -34,7 +35,7 @@ enum kelafshir_number {
     KELAFSHIR_EXTENT = 3,           /* an extent is over 31 */
     KELAFSHIR_SIZE = 4,             /* a width, a row count or a line's length is 0 or too large */
     KELAFSHIR_SAMPLE_KIND = 5,      /* the sample kind is not grey or float, or not the state's */
-    KELAFSHIR_MEMORY = 6,           /* too few queue cells or column records are lent */
+    KELAFSHIR_MEMORY = 6,           /* too few queue cells, column records or bytes of output are lent */
     KELAFSHIR_ROW_LENGTH = 7,       /* a row is not as long as the width, or two rows differ in length */
     KELAFSHIR_NOT_FINITE = 8,       /* a pixel is not finite */
     KELAFSHIR_ALL_READ = 9,         /* a row or pixel is offered when all have been read */
@@ -43,7 +44,7 @@ enum kelafshir_number {
     KELAFSHIR_STATE = 12,           /* the state breaks its rules */
     KELAFSHIR_ENDS_EARLY = 13,      /* a job ends early */
     KELAFSHIR_BYTES_AFTER = 14,     /* a job has bytes after its last row */
-    KELAFSHIR_CELLS = 15,           /* the program's job needs over 4,096 cells */
+    KELAFSHIR_CELLS = 15,           /* a job needs over 4,096 cells */
     KELAFSHIR_NEGATIVE = 16,        /* a residue pixel would be negative */
     KELAFSHIR_FILTER_ORDER = 17     /* the filter order is 0 or over 4 */
 };
@@ -63,6 +64,33 @@ enum kelafshir_number {
  */
 uint8_t kelafshir_filter_row(uint8_t kind, uint8_t left, uint8_t right, const uint8_t *row, size_t row_length, uint8_t *out,
                              size_t out_length);
+
+/* What a job in memory comes to: a number, and how many bytes were written. */
+struct kelafshir_job_run {
+    uint8_t number;
+    size_t written;
+};
+
+/* Runs a job: the bytes of a plan, an image head and its rows, whole or damaged, as the program reads them. Writes what the
+ * program would write to the front of out: byte 2 and the image head's five bytes, for each output row byte 1 and the row,
+ * last byte 0 and the number; of a refused head byte 0 and the number alone.
+ *
+ * out must have room for a full run, also where the rows turn out to be cut short: 6 bytes, for each row of the head 1 byte
+ * and the row's, and 2 bytes. 2 bytes are enough where the head is refused. Both blocks belong to the caller, have the
+ * lengths given with them and must not overlap. The job is only read, and what lies in out behind the answer is as it was.
+ *
+ * It takes about 90 KB of the stack: three rows, 4,096 queue cells of either kind of sample, and as many column records.
+ *
+ * Answers how many bytes were written and the number that they end with: KELAFSHIR_DONE, or the first refusal in the order
+ * in which a job is read:
+ *   the room        KELAFSHIR_MEMORY: out_length is less; written is 0, and out is as it was
+ *   the count       KELAFSHIR_ENDS_EARLY, KELAFSHIR_STAGE_COUNT
+ *   all stages      KELAFSHIR_ENDS_EARLY; then stage by stage KELAFSHIR_STAGE_KIND, KELAFSHIR_EXTENT
+ *   the head        KELAFSHIR_ENDS_EARLY, KELAFSHIR_SAMPLE_KIND, KELAFSHIR_SIZE, KELAFSHIR_CELLS
+ *   row by row      KELAFSHIR_ENDS_EARLY, KELAFSHIR_NOT_FINITE; rows that were due before it are written
+ *   bytes after     KELAFSHIR_BYTES_AFTER; all rows are written
+ */
+struct kelafshir_job_run kelafshir_run_job(const uint8_t *job, size_t job_length, uint8_t *out, size_t out_length);
 
 #ifdef __cplusplus
 }

@@ -1,8 +1,10 @@
-// The one-row filter that the scanner bench's firmware links: a plain C-callable function on numbers and two rows of grey bytes.
-// From C a row is a pointer and then a length. The two rows may not overlap; nothing past either row is read or written.
+// What the scanner bench's firmware links: plain C-callable functions, the one-row filter on numbers and two rows of grey bytes, and a whole job in memory.
+// From C a row, a job or an output is a pointer and then a length. The two of a call may not overlap; nothing past either is read or written.
 
 ghost use mathlib.Core.Path.{_≡_};
+ghost use Rattle.job_run.specs.Run.{RunsJob};
 ghost use Rattle.firmware.specs.Row.{filterRowNumber, FiltersRow};
+use job_run::JobRun;
 
 // The number of a call, 0 where it is accepted, of rows of these two lengths.
 fn judge(kind: u8, left: u8, right: u8, pixels: usize, places: usize) -> u8
@@ -39,4 +41,12 @@ pub extern "C" fn kelafshir_filter_row(
     sample::grey::copy(input, output);
     row_grey::across(which, back, ahead, output);
     0
+}
+
+// Runs the job into the output, and answers the number at its answer's end and how many bytes that has; or 6 and none where the output is too short, and writes nothing.
+#[no_mangle]
+pub extern "C" fn kelafshir_run_job(job: &[u8], out: &mut [u8]) -> JobRun
+    ensures { λ r. ⌜ RunsJob (now (job .entry)) (now (out .entry)) (now (out .exit)) r ⌝ }
+{
+    job_run::run(job, out)
 }

@@ -143,7 +143,7 @@ fn five(bytes: &[u8], at: usize) -> [u8; 5]
 }
 
 // The image head that stands at `at`. Refused 13, 5, 4.
-fn head_section(bytes: &[u8], at: usize) -> Head
+pub fn head_section(bytes: &[u8], at: usize) -> Head
     requires { ⌜ at ≤ length (now bytes) ⌝ }
     ensures { λ r. ⌜ r ≡ headAnswered (headSectionNumber (now (bytes .entry)) at) (drop at (now (bytes .entry))) ⌝ }
 {
@@ -172,7 +172,8 @@ fn judge_length(bytes: &[u8], job: Job) -> u8
     0
 }
 
-fn refused(number: u8) -> JobRead
+// What a refused job is read as.
+pub fn refused(number: u8) -> JobRead
     ensures { λ r. ⌜ r ≡ record { number = number; job = noJob } ⌝ }
 {
     let none = Job {

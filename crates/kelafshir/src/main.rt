@@ -1,5 +1,7 @@
 // The program: the job that standard input has is run, and its answer goes to standard output.
+use program::standard_input;
+use program::standard_output;
 
 fn main() {
-    program::run(libc::STDIN_FILENO, libc::STDOUT_FILENO);
+    program::run(standard_input(), standard_output());
 }

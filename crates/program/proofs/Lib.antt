@@ -1,2 +1,2 @@
-pub mod Prefix
-pub mod Whole
+pub mod Buffer
+pub mod Runs

@@ -1,106 +1,183 @@
-// The program that runs a job, on descriptors: it reads a group of bytes, has it judged, and writes what is due before it reads on.
-// What a group says and what is written is decided by crate groups; what is here moves bytes.
-// The crates course_grey and course_rate go over the rows. A read that fails counts as the end of the input; a write that fails ends the run, since nothing can be told any more.
+// The program that runs a job, on two descriptors: the turns of the machine, with a read before each and a write after it.
+// What a turn wants, uses and puts is decided by crate turn; what is here moves bytes. A write that fails ends the run, since nothing can be told any more.
 
 ghost use mathlib.Core.Path.{_≡_};
-ghost use Prim.Native.Nat.{_+_, _≤_};
-ghost use lib.ListN.{length};
-ghost use Rattle.plan_record.specs.Plan.{planAhead, recordNumber};
-ghost use Rattle.picture_state.specs.Numbers.{startNumber};
-ghost use Rattle.picture_state.specs.Start.{firstState};
-ghost use Rattle.course.specs.Inner.{Gone, Over};
-use course::Course;
-use course::Turn;
-use job::Head;
-use plan_record::Plan;
-use plan_record::Reading;
+ghost use Prim.Native.Nat.{_-_, _≤_};
+ghost use lib.ListN.{length, take, drop};
+ghost use Rattle.turns.specs.Inner.{machineMemory, MemoryRoom};
+ghost use Rattle.program.specs.Ran.{ProgramRan};
+ghost use Rattle.ports.specs.Ports.{Latest, Due, Gave};
+ghost use Rattle.program.specs.Inner.{Fetched, Settled};
+pub use ports::Given;
+pub use ports::Input;
+pub use ports::Loss;
+pub use ports::Moved;
+pub use ports::Output;
+pub use ports::input_of;
+pub use ports::standard_input;
+pub use ports::standard_output;
 
-// ---- the end
-
-fn put_end(to: i32, number: u8) {
-    let bytes = groups::ending(number);
-    io::write_all(to, &bytes);
+// The bytes at hand, at the front of a buffer: how many there are, and what was moved so far.
+struct Hand {
+    moved: Moved,
+    have: usize,
 }
 
-// The end of a run that is refused: 0 is the number of a full run, and never a refusal's.
-fn refuse(to: i32, number: u8)
-    requires { ⌜ (number ≡ 0 → ⊥) ⌝ }
+// Reads until so many bytes are at hand or the input ends. The bytes that were at hand stay. The total is of all that went through.
+fn fetch(from: Input, bytes: &mut [u8], hand: Hand, wants: usize, total: &mut usize) -> Hand
+    requires { ⌜ (hand .have ≤ length (now bytes)) × (wants ≤ length (now bytes)) × Latest (hand .moved) (now total) ⌝ }
+    ensures { λ r. ⌜ Fetched (now (bytes .entry)) (now (bytes .exit)) hand wants (now (total .exit)) r ⌝ }
 {
-    put_end(to, number);
+    let have = hand.have;
+    if wants <= have {
+        return hand;
+    }
+    let before = hand.moved;
+    let came = ports::receive(from, before, &mut bytes[have..wants], total);
+    let moved = came.moved;
+    Hand {
+        moved: moved,
+        have: have + came.got,
+    }
 }
 
-// ---- the groups
-
-// The plan section: its stages are read once the count is judged.
-fn read_plan(from: i32) -> Reading
-    ensures { λ r. ⌜ (r .plan .count ≤ 16) × (r .plan .count ≤ length (r .plan .stages)) × (r .number ≡ 0 → recordNumber (r .plan) ≡ 0) ⌝ }
+// Gives what a turn put, and counts it on from what was moved so far.
+fn send(
+    to: Output,
+    hand: Hand,
+    bytes: &[u8],
+    frame: &[u8; 16385],
+    put: usize,
+    total: &mut usize,
+) -> Given
+    requires { ⌜ (put ≤ 16385) × Latest (hand .moved) (now total) × Due (hand .moved) (now bytes) (now frame) put ⌝ }
+    ensures { λ r. ⌜ Gave (hand .moved) put (now (total .exit)) r ⌝ }
 {
-    let mut bytes = section();
-    let got = io::read_full(from, &mut bytes[..1]);
-    let asked = groups::stages_asked(&bytes[..got]);
-    if asked == 0 {
-        return job::plan_section(&bytes[..got]);
-    }
-    let end = got + asked;
-    let more = io::read_full(from, &mut bytes[got..end]);
-    let all = got + more;
-    job::plan_section(&bytes[..all])
+    let before = hand.moved;
+    ports::give(to, before, bytes, frame, put, total)
 }
 
-// The rows and the drains, of a plan and a head that are accepted.
-fn run_rows(from: i32, to: i32, plan: Plan, head: Head) -> Turn
-    requires { ⌜ (plan .count ≤ 16) × (head .sample ≤ 1) × (head .width ≤ 4096) × (startNumber plan (head .sample) (head .width) (head .rows) 4096 4096 ≡ 0) ⌝ }
-    ensures { λ r. ⌜ Gone (head .rows + planAhead plan) (firstState plan (head .sample) (head .width) (head .rows)) r ⌝ }
+// Moves the bytes that are not used to the front, and says how many they are.
+fn keep(bytes: &mut [u8], used: usize, have: usize) -> usize
+    requires { ⌜ (used ≤ have) × (have ≤ length (now bytes)) ⌝ }
+    ensures { λ r. ⌜ (r ≡ have - used) × (take r (now (bytes .exit)) ≡ drop used (take have (now (bytes .entry)))) ⌝ }
 {
-    if head.sample == 0 {
-        return course_grey::run(from, to, plan, head.width, head.rows);
+    let left = have - used;
+    let mut i = 0;
+    while i < left {
+        bytes[i] = bytes[used + i];
+        i += 1;
     }
-    course_rate::run(from, to, plan, head.width, head.rows)
+    left
 }
 
-// What is left once every step is taken, or a row is refused.
-fn finish(from: i32, to: i32, turn: Turn)
-    requires { ⌜ Over turn ⌝ }
+// Turn after turn, until the machine is over or a write fails. What is lent behind the frame is the turn's: two rows to work with, and the memory of the stages.
+fn go(
+    from: Input,
+    to: Output,
+    bytes: &mut [u8],
+    frame: &mut [u8; 16385],
+    row: &mut [f32],
+    came: &mut [f32],
+    greys: &mut [u8],
+    rates: &mut [f32],
+    positions: &mut [u16],
+    starts: &mut [u8],
+    lengths: &mut [u8],
+    total: &mut usize,
+) -> Given
+    requires { ⌜ (now total ≡ 0) × (length (now bytes) ≡ 16384) × (length (now frame) ≡ 16385) × (4096 ≤ length (now row)) × (4096 ≤ length (now came)) × MemoryRoom (machineMemory (now greys) (now rates) (now positions) (now starts) (now lengths)) ⌝ }
+    ensures { λ r. ⌜ ProgramRan r × Settled r (now (total .exit)) ⌝ }
 {
-    let course = turn.course;
-    match course {
-        Course::On => {
-            let mut byte = [0u8; 1];
-            let got = io::read_full(from, &mut byte);
-            put_end(to, groups::judge_tail(got));
-        }
-        Course::Ends(number) => refuse(to, number),
-        Course::Lost => {}
+    let mut machine = turns::at_head(1);
+    let mut hand = Hand {
+        moved: ports::nothing(),
+        have: 0,
+    };
+    while turns::is_on(machine) {
+        let next = fetch(from, bytes, hand, machine.wants, total);
+        let have = next.have;
+        let turned = turn::turn(
+            machine,
+            &bytes[..have],
+            frame,
+            row,
+            came,
+            greys,
+            rates,
+            positions,
+            starts,
+            lengths,
+        );
+        let given = send(to, next, &bytes[..have], frame, turned.put, total);
+        let Given::All(moved) = given else {
+            return given;
+        };
+        let left = keep(bytes, turned.used, have);
+        hand = Hand {
+            moved: moved,
+            have: left,
+        };
+        machine = turned.machine;
     }
+    let moved = hand.moved;
+    Given::All(moved)
 }
 
-// Runs the job that is read from one descriptor, and writes its answer to the other.
-pub fn run(from: i32, to: i32) {
-    let section = read_plan(from);
-    if section.number != 0 {
-        refuse(to, section.number);
-        return;
-    }
-    let plan = section.plan;
-    let mut bytes = [0u8; 5];
-    let got = io::read_full(from, &mut bytes);
-    let head = groups::judge_image(plan, got, &bytes);
-    if head.number != 0 {
-        refuse(to, head.number);
-        return;
-    }
-    let first = groups::opening(bytes);
-    if io::write_all(to, &first) {
-        let turn = run_rows(from, to, plan, head);
-        finish(from, to, turn);
-    }
+// Runs the job that is read from the input, and gives its answer to the output. Its memory is local: some 100 KB.
+pub fn run(from: Input, to: Output) -> Given
+    ensures { λ r. ⌜ ProgramRan r ⌝ }
+{
+    let mut bytes = at_hand();
+    let mut frame = frame();
+    let mut row = floats();
+    let mut came = floats();
+    let mut greys = io::buffer();
+    let mut rates = floats();
+    let mut positions = positions();
+    let mut starts = io::buffer();
+    let mut lengths = io::buffer();
+    let mut total = 0;
+    go(
+        from,
+        to,
+        &mut bytes,
+        &mut frame,
+        &mut row,
+        &mut came,
+        &mut greys,
+        &mut rates,
+        &mut positions,
+        &mut starts,
+        &mut lengths,
+        &mut total,
+    )
 }
 
 // ---- memory
 
-// A count and 16 stages.
-fn section() -> [u8; 81]
-    ensures { λ r. ⌜ 81 ≡ length r ⌝ }
+// A row of 4,096 floats, the most that a machine wants at hand.
+fn at_hand() -> [u8; 16384]
+    ensures { λ r. ⌜ 16384 ≡ length r ⌝ }
 {
-    [0; 81]
+    [0; 16384]
+}
+
+// A marker and such a row.
+fn frame() -> [u8; 16385]
+    ensures { λ r. ⌜ 16385 ≡ length r ⌝ }
+{
+    [0; 16385]
+}
+
+fn floats() -> [f32; 4096]
+    ensures { λ r. ⌜ 4096 ≡ length r ⌝ }
+{
+    [0.0; 4096]
+}
+
+fn positions() -> [u16; 4096]
+    ensures { λ r. ⌜ 4096 ≡ length r ⌝ }
+{
+    [0; 4096]
 }

@@ -13,7 +13,7 @@ use lib.Seq.{getD-drop, drop-at, length-take-le, sets-eq}
 use lib.Ieee.{Float, nan, binary32, ofBits, toBits, fits, nanBits}
 use lib.Ieee.Bits.{ofBits-toBits, toBits-ofBits, toBits-lt, nanBits-is, nanBits-above}
 use lib.Ieee.Scale.{finite}
-use Rattle.sample.specs.Inner.{fourBytes, digitsOf, floatOf, floatAt, bytesOf}
+use Rattle.sample.specs.Bytes.{fourBytes, digitsOf, floatOf, floatAt, bytesOf}
 use Rattle.sample.proofs.Floats.{is-nan, finite-not-nan}
 
 -- ---- the two round trips

@@ -1,3 +1,3 @@
 pub mod Rate
 pub mod Samples
-pub mod Inner
+pub mod Bytes

@@ -8,7 +8,7 @@ ghost use lib.Ieee.Scale.{finite};
 ghost use Rattle.morph.specs.Lists.{all};
 ghost use Rattle.morph.specs.Rate.{plusZero};
 ghost use Rattle.sample.specs.Rate.{passesOf};
-ghost use Rattle.sample.specs.Inner.{floatOf, floatAt, bytesOf};
+ghost use Rattle.sample.specs.Bytes.{floatOf, floatAt, bytesOf};
 ghost use Rattle.sample.specs.Samples.{firstBad, rates};
 use morph::Kind;
 

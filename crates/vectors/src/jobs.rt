@@ -1,5 +1,6 @@
 // Whole jobs: each file j000, j001, .. of data/ goes through the program. A line with its name, the answer's bytes, and a line end.
-use libc::STDOUT_FILENO;
+use program::input_of;
+use program::standard_output;
 
 fn digit(n: u8) -> u8 {
     48 + n % 10
@@ -14,7 +15,7 @@ fn one(n: u8) -> bool {
     }
     show::text(&name);
     show::text(b"\n");
-    program::run(from, STDOUT_FILENO);
+    program::run(input_of(from), standard_output());
     show::text(b"\n");
     libc::close(from);
     true

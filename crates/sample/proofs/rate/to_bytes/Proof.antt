@@ -4,7 +4,7 @@ use mathlib.Core.List.{_++_}
 use Prim.Native.Nat.{_+_}
 use native.Mathlib.Omega.{arith}
 use lib.ListN.{take, drop, length-set}
-use Rattle.sample.specs.Inner.{digitsOf}
+use Rattle.sample.specs.Bytes.{digitsOf}
 use Rattle.sample.proofs.Bytes.{four-stores}
 use borrow.Author.Needs.{needs}
 use Rattle.sample.proofs.rate.to_bytes.Statement.{statement}

@@ -1,0 +1,4 @@
+pub mod Lengths
+pub mod Outcome
+pub mod Unique
+pub mod Six

@@ -1,0 +1,4 @@
+pub mod Opens
+pub mod Frame
+pub mod First
+pub mod Stays

@@ -1,0 +1,5 @@
+pub mod Phases
+pub mod Step
+pub mod Rows
+pub mod Turn
+pub mod Cut
