@@ -1,4 +1,4 @@
-// The two descriptors of a run, and what went through them. Whatever calls the system stands here: one read and one write.
+// The two descriptors of a run, and what went through them. Every read and write of a run goes through here, and is counted.
 
 ghost use mathlib.Core.Path.{_≡_};
 ghost use mathlib.Core.Bool.{false};
@@ -6,6 +6,7 @@ ghost use Prim.Native.Nat.{_≤_};
 ghost use lib.ListN.{length};
 ghost use lib.IntN.{pos};
 ghost use Rattle.ports.specs.Ports.{Latest, Due, Receives, Gave};
+use descriptors::Filled;
 
 // Where a job is read from, and where its answer goes: two types, so that neither stands for the other.
 // Their numbers are seen in this crate alone.
@@ -50,21 +51,21 @@ pub struct Moved {
     given: usize,
 }
 
-// What a read comes to, and how many bytes it brought.
-pub struct Received {
-    pub moved: Moved,
-    pub got: usize,
-}
-
-// A write that failed, and what was moved before it. The field is seen in this crate alone, so that nothing but a write fails.
+// A read or a write that failed, and what was moved before it. The field is seen in this crate alone, so that nothing else fails.
 pub struct Loss {
     moved: Moved,
 }
 
-// All that was to be written was given, or a write failed.
-pub enum Given {
-    All(Moved),
+// What was to be moved went through; or a read or a write failed, and nothing more can be told: a job that cannot be read has not ended early.
+pub enum Went {
+    Through(Moved),
     Lost(Loss),
+}
+
+// What a read comes to, and how many bytes it brought.
+pub struct Received {
+    pub went: Went,
+    pub got: usize,
 }
 
 pub fn nothing() -> Moved
@@ -77,25 +78,31 @@ pub fn nothing() -> Moved
     }
 }
 
-// Reads until the part is full or the input ends; after its end nothing is read. A read that fails counts as the end.
+// Reads until the part is full or the input ends; after its end nothing is read. A read that fails loses the run, and what came of the part before it is not counted.
 pub fn receive(from: Input, before: Moved, part: &mut [u8], total: &mut usize) -> Received
     requires { ⌜ Latest before (now total) ⌝ }
-    ensures { λ r. ⌜ Receives before (length (now (part .exit))) (now (total .exit)) r ⌝ }
+    ensures { λ r. ⌜ Receives before (length (now (part .exit))) (now (total .exit)) (r .got) (r .went) ⌝ }
 {
     if before.ended {
         return Received {
-            moved: before,
+            went: Went::Through(before),
             got: 0,
         };
     }
-    let got = io::read_full(from.fd, part);
+    let filled = descriptors::fill(from.fd, part);
+    let Filled::With(got) = filled else {
+        return Received {
+            went: Went::Lost(Loss { moved: before }),
+            got: 0,
+        };
+    };
     *total = *total + got;
     Received {
-        moved: Moved {
+        went: Went::Through(Moved {
             read: before.read + got,
             ended: got < part.len(),
             given: before.given,
-        },
+        }),
         got: got,
     }
 }
@@ -110,18 +117,18 @@ pub fn give(
     frame: &[u8; 16385],
     put: usize,
     total: &mut usize,
-) -> Given
+) -> Went
     requires { ⌜ (put ≤ 16385) × Latest before (now total) × Due before (now hand) (now frame) put ⌝ }
     ensures { λ r. ⌜ Gave before put (now (total .exit)) r ⌝ }
 {
     let all: &[u8] = frame;
-    if io::write_all(to.fd, &all[..put]) {
+    if descriptors::write_whole(to.fd, &all[..put]) {
         *total = *total + put;
-        return Given::All(Moved {
+        return Went::Through(Moved {
             read: before.read,
             ended: before.ended,
             given: before.given + put,
         });
     }
-    Given::Lost(Loss { moved: before })
+    Went::Lost(Loss { moved: before })
 }

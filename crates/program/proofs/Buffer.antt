@@ -9,9 +9,11 @@ use lib.ListN.{length, getD, take, drop, set, length-set, length-drop}
 use lib.Seq.{drop-at, length-take-le, take-add, take-suc, take-suc-set, drop-drop, drop-set-lt, getD-drop}
 use Rattle.morph.proofs.Lists.{split}
 use Rattle.program.specs.declared.Hand.{Hand}
-use Rattle.ports.specs.declared.Received.{Received}
-use Rattle.ports.specs.Ports.{Latest, Receives}
-use Rattle.program.specs.Inner.{Fetched}
+use Rattle.ports.specs.declared.Moved.{Moved}
+use Rattle.ports.specs.declared.Went.{Went}
+use Rattle.ports.specs.declared.Went.the-variants.{Through, Lost}
+use Rattle.ports.specs.Ports.{Latest, Comes, Receives}
+use Rattle.program.specs.Inner.{Fetched, Fetches}
 
 -- ---- fetch
 
@@ -29,9 +31,10 @@ module _ (bytes : List ℕ) (hand : Hand) (wants : ℕ) (there : hand .have ≤ 
     short = λ (s : hand .have < wants). absurd (omega arith);
   }
 
-  pub fetched-read : (ys : List ℕ) (total : ℕ) (r : Received) → hand .have < wants → wants ≤ length bytes → length ys ≡ length (take (wants - hand .have) (drop (hand .have) bytes))
-      → Receives (hand .moved) (length ys) total r → Fetched bytes (putMid (hand .have) (wants - hand .have) bytes ys) hand wants total (record { moved = r .moved; have = hand .have + r .got })
-  fetched-read ys total r h w y g =
+  -- a read that did not fail
+  fetched-read : (ys : List ℕ) (total got : ℕ) (m : Moved) → hand .have < wants → wants ≤ length bytes → length ys ≡ length (take (wants - hand .have) (drop (hand .have) bytes))
+      → Comes (hand .moved) (length ys) total got m → Fetched bytes (putMid (hand .have) (wants - hand .have) bytes ys) hand wants total (record { moved = m; have = hand .have + got })
+  fetched-read ys total got m h w y g =
       let n : length ys ≡ wants - hand .have = y ∙ mid-len (hand .have) wants bytes w in
       let k = g .within in
       record {
@@ -44,9 +47,15 @@ module _ (bytes : List ℕ) (hand : Hand) (wants : ℕ) (there : hand .have ≤ 
             (λ e. let m = ap (λ m. m .read) (g .moved e) in omega arith);
         given = split (hand .moved .ended) (λ e. ap (λ m. m .given) (g .after e .0)) (λ e. ap (λ m. m .given) (g .moved e));
         after = λ t. (g .after t .0, let z = g .after t .1 in omega arith);
-        short = λ (s : hand .have + r .got < wants).
-            split (hand .moved .ended) (λ e. ap (λ m. m .ended) (g .after e .0) ∙ e) (λ e. ap (λ m. m .ended) (g .moved e) ∙ lt-ltb (r .got) (length ys) (omega arith));
+        short = λ (s : hand .have + got < wants).
+            split (hand .moved .ended) (λ e. ap (λ m. m .ended) (g .after e .0) ∙ e) (λ e. ap (λ m. m .ended) (g .moved e) ∙ lt-ltb got (length ys) (omega arith));
       }
+
+  -- a read, whether it failed or not
+  pub fetches-read : (ys : List ℕ) (total got : ℕ) (w : Went) → hand .have < wants → wants ≤ length bytes → length ys ≡ length (take (wants - hand .have) (drop (hand .have) bytes))
+      → Receives (hand .moved) (length ys) total got w → Fetches bytes (putMid (hand .have) (wants - hand .have) bytes ys) hand wants total (hand .have + got) w
+  fetches-read ys total got (Through m) h w y g = fetched-read ys total got m h w y g
+  fetches-read ys total got (Lost l) h w y g = g .0
 
 -- ---- keep
 

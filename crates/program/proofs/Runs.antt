@@ -27,11 +27,11 @@ use Rattle.turns.proofs.Phases.{row-few}
 use Rattle.program.specs.declared.Hand.{Hand}
 use Rattle.ports.specs.declared.Moved.{Moved}
 use Rattle.ports.specs.declared.Loss.{Loss}
-use Rattle.ports.specs.declared.Given.{Given}
-use Rattle.ports.specs.declared.Given.the-variants.{All, Lost}
+use Rattle.ports.specs.declared.Went.{Went}
+use Rattle.ports.specs.declared.Went.the-variants.{Through, Lost}
 use Rattle.program.specs.Ran.{ProgramRan}
 use Rattle.ports.specs.Ports.{Latest, Due, Gave}
-use Rattle.program.specs.Inner.{Settled, Fetched}
+use Rattle.program.specs.Inner.{Settled, Fetched, Fetches}
 
 -- ---- what is wanted
 
@@ -150,10 +150,9 @@ module _ {hand : List ℕ} {L : MachineMemory} {m : Machine} {moved : Moved} (r 
             r .told rest e ∙ ap (λ l. r .out ++ l) (g .same rest (λ s. e (short s))) ∙ sym (append-assoc (r .out) (take (t .put) frame) (g .next (drop (t .used) hand ++ rest)));
       }
 
-  -- a write failed: what was given before it is a beginning of the answer
-  pub runs-lost : (put total : ℕ) {g : Given} {l : Loss} → g ≡ Lost l → Gave moved put total g → ProgramRan g × Settled g total
-  runs-lost put total {g} {l} q h =
-      let e : l .moved ≡ moved = rw q at h in
+  -- a read or a write failed: what was given before it is a beginning of the answer
+  pub runs-lost : (total : ℕ) {w : Went} {l : Loss} → w ≡ Lost l → l .moved ≡ moved → ProgramRan w × Settled w total
+  runs-lost total {w} {l} q e =
       let c = ap (λ m. m .given) e ∙ r .given in
       rw q (
         record {
@@ -167,7 +166,7 @@ module _ {hand : List ℕ} {L : MachineMemory} {m : Machine} {moved : Moved} (r 
       )
 
   -- at the end what was given is the answer
-  pub runs-last : isOver (m .phase) ≡ true → ProgramRan (All moved)
+  pub runs-last : isOver (m .phase) ≡ true → ProgramRan (Through moved)
   runs-last e = record {
     came = r .came;
     read = r .read;
@@ -175,10 +174,21 @@ module _ {hand : List ℕ} {L : MachineMemory} {m : Machine} {moved : Moved} (r 
         r .given ∙ sym (ap length (r .told rest s ∙ ap (λ l. r .out ++ l) (over-nothing (m .phase) (m .wants) (m .state) L (r .f) e (r .means) (hand ++ rest)) ∙ append-nil (r .out)));
   }
 
--- what a write that did not fail counts
-pub given-all : (before : Moved) {m : Moved} (put total : ℕ) {g : Given} → g ≡ All m → Gave before put total g
+-- what a write that did not fail counts, and what one that failed leaves
+pub given-all : (before : Moved) {m : Moved} (put total : ℕ) {w : Went} → w ≡ Through m → Gave before put total w
     → (m ≡ record { read = before .read; ended = before .ended; given = before .given + put }) × (total ≡ m .read + m .given)
 given-all before put total q h = rw q at h
+
+pub given-lost : (before : Moved) {l : Loss} (put total : ℕ) {w : Went} → w ≡ Lost l → Gave before put total w → l .moved ≡ before
+given-lost before put total q h = rw q at h
+
+-- the same of a read
+pub fetched-had : (bytes bytes′ : List ℕ) (hand : Hand) (wants total have : ℕ) {w : Went} {m : Moved} → w ≡ Through m → Fetches bytes bytes′ hand wants total have w
+    → Fetched bytes bytes′ hand wants total (record { moved = m; have = have })
+fetched-had bytes bytes′ hand wants total have q h = rw q at h
+
+pub fetched-lost : (bytes bytes′ : List ℕ) (hand : Hand) (wants total have : ℕ) {w : Went} {l : Loss} → w ≡ Lost l → Fetches bytes bytes′ hand wants total have w → l .moved ≡ hand .moved
+fetched-lost bytes bytes′ hand wants total have q h = rw q at h
 
 -- ---- the bytes at hand in their buffer
 

@@ -6,21 +6,21 @@ use Prim.Native.Nat.{ℕ, _≤_}
 use lib.ListN.{length}
 use Rattle.answer.specs.Answer.{answerOf}
 use Rattle.ports.specs.declared.Moved.{Moved}
-use Rattle.ports.specs.declared.Given.{Given}
-use Rattle.ports.specs.declared.Given.the-variants.{All, Lost}
+use Rattle.ports.specs.declared.Went.{Went}
+use Rattle.ports.specs.declared.Went.the-variants.{Through, Lost}
 
-abbrev pub movedOf : Given → Moved
-movedOf (All m) = m
+abbrev pub movedOf : Went → Moved
+movedOf (Through m) = m
 movedOf (Lost l) = l .moved
 
--- as many bytes as the answer has; where a write failed, no more than that before it
-abbrev pub GivenOf : List ℕ → Given → Type 0
-GivenOf answer (All m) = m .given ≡ length answer
+-- as many bytes as the answer has; where a read or a write failed, no more than that before it
+abbrev pub GivenOf : List ℕ → Went → Type 0
+GivenOf answer (Through m) = m .given ≡ length answer
 GivenOf answer (Lost l) = l .moved .given ≤ length answer
 
--- There are bytes that came, as many as were read. Whatever comes behind them, and nothing does once a read was short, as many bytes were given as the answer to it all has:
+-- There are bytes that came, as many as were read (of a part whose read failed, none). Whatever comes behind them, and nothing does once a read was short, as many bytes were given as the answer to it all has:
 -- so a run that no read cut short has read as far as the answer's length depends on what is read.
-pub record ProgramRan (r : Given) : Type 0 where
+pub record ProgramRan (r : Went) : Type 0 where
   pub came : List ℕ
   pub read : movedOf r .read ≡ length came
   pub gave : (rest : List ℕ) → (movedOf r .ended ≡ true → rest ≡ []) → GivenOf (answerOf (came ++ rest)) r

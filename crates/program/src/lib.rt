@@ -1,5 +1,6 @@
 // The program that runs a job, on two descriptors: the turns of the machine, with a read before each and a write after it.
-// What a turn wants, uses and puts is decided by crate turn; what is here moves bytes. A write that fails ends the run, since nothing can be told any more.
+// What a turn wants, uses and puts is decided by crate turn; what is here moves bytes. A read or a write that fails ends the run: nothing can be told any more, and a job that
+// cannot be read gets no number.
 
 ghost use mathlib.Core.Path.{_≡_};
 ghost use Prim.Native.Nat.{_-_, _≤_};
@@ -7,12 +8,12 @@ ghost use lib.ListN.{length, take, drop};
 ghost use Rattle.turns.specs.Inner.{machineMemory, MemoryRoom};
 ghost use Rattle.program.specs.Ran.{ProgramRan};
 ghost use Rattle.ports.specs.Ports.{Latest, Due, Gave};
-ghost use Rattle.program.specs.Inner.{Fetched, Settled};
-pub use ports::Given;
+ghost use Rattle.program.specs.Inner.{Fetches, Settled};
 pub use ports::Input;
 pub use ports::Loss;
 pub use ports::Moved;
 pub use ports::Output;
+pub use ports::Went;
 pub use ports::input_of;
 pub use ports::standard_input;
 pub use ports::standard_output;
@@ -23,37 +24,45 @@ struct Hand {
     have: usize,
 }
 
+// What fetching comes to: how it went, and how many bytes are at hand then.
+struct Brought {
+    went: Went,
+    have: usize,
+}
+
 // Reads until so many bytes are at hand or the input ends. The bytes that were at hand stay. The total is of all that went through.
-fn fetch(from: Input, bytes: &mut [u8], hand: Hand, wants: usize, total: &mut usize) -> Hand
+fn fetch(from: Input, bytes: &mut [u8], hand: Hand, wants: usize, total: &mut usize) -> Brought
     requires { ⌜ (hand .have ≤ length (now bytes)) × (wants ≤ length (now bytes)) × Latest (hand .moved) (now total) ⌝ }
-    ensures { λ r. ⌜ Fetched (now (bytes .entry)) (now (bytes .exit)) hand wants (now (total .exit)) r ⌝ }
+    ensures { λ r. ⌜ Fetches (now (bytes .entry)) (now (bytes .exit)) hand wants (now (total .exit)) (r .have) (r .went) ⌝ }
 {
     let have = hand.have;
-    if wants <= have {
-        return hand;
-    }
     let before = hand.moved;
+    if wants <= have {
+        return Brought {
+            went: Went::Through(before),
+            have: have,
+        };
+    }
     let came = ports::receive(from, before, &mut bytes[have..wants], total);
-    let moved = came.moved;
-    Hand {
-        moved: moved,
+    let went = came.went;
+    Brought {
+        went: went,
         have: have + came.got,
     }
 }
 
-// Gives what a turn put, and counts it on from what was moved so far.
+// Gives what a turn put, which has to be due, and counts it on from what was moved so far.
 fn send(
     to: Output,
-    hand: Hand,
+    before: Moved,
     bytes: &[u8],
     frame: &[u8; 16385],
     put: usize,
     total: &mut usize,
-) -> Given
-    requires { ⌜ (put ≤ 16385) × Latest (hand .moved) (now total) × Due (hand .moved) (now bytes) (now frame) put ⌝ }
-    ensures { λ r. ⌜ Gave (hand .moved) put (now (total .exit)) r ⌝ }
+) -> Went
+    requires { ⌜ (put ≤ 16385) × Latest before (now total) × Due before (now bytes) (now frame) put ⌝ }
+    ensures { λ r. ⌜ Gave before put (now (total .exit)) r ⌝ }
 {
-    let before = hand.moved;
     ports::give(to, before, bytes, frame, put, total)
 }
 
@@ -71,7 +80,7 @@ fn keep(bytes: &mut [u8], used: usize, have: usize) -> usize
     left
 }
 
-// Turn after turn, until the machine is over or a write fails. What is lent behind the frame is the turn's: two rows to work with, and the memory of the stages.
+// Turn after turn, until the machine is over, or a read or a write fails. What is lent behind the frame is the turn's: two rows to work with, and the memory of the stages.
 fn go(
     from: Input,
     to: Output,
@@ -85,7 +94,7 @@ fn go(
     starts: &mut [u8],
     lengths: &mut [u8],
     total: &mut usize,
-) -> Given
+) -> Went
     requires { ⌜ (now total ≡ 0) × (length (now bytes) ≡ 16384) × (length (now frame) ≡ 16385) × (4096 ≤ length (now row)) × (4096 ≤ length (now came)) × MemoryRoom (machineMemory (now greys) (now rates) (now positions) (now starts) (now lengths)) ⌝ }
     ensures { λ r. ⌜ ProgramRan r × Settled r (now (total .exit)) ⌝ }
 {
@@ -95,8 +104,12 @@ fn go(
         have: 0,
     };
     while turns::is_on(machine) {
-        let next = fetch(from, bytes, hand, machine.wants, total);
-        let have = next.have;
+        let fetched = fetch(from, bytes, hand, machine.wants, total);
+        let went = fetched.went;
+        let Went::Through(before) = went else {
+            return went;
+        };
+        let have = fetched.have;
         let turned = turn::turn(
             machine,
             &bytes[..have],
@@ -109,9 +122,9 @@ fn go(
             starts,
             lengths,
         );
-        let given = send(to, next, &bytes[..have], frame, turned.put, total);
-        let Given::All(moved) = given else {
-            return given;
+        let gone = send(to, before, &bytes[..have], frame, turned.put, total);
+        let Went::Through(moved) = gone else {
+            return gone;
         };
         let left = keep(bytes, turned.used, have);
         hand = Hand {
@@ -121,11 +134,11 @@ fn go(
         machine = turned.machine;
     }
     let moved = hand.moved;
-    Given::All(moved)
+    Went::Through(moved)
 }
 
 // Runs the job that is read from the input, and gives its answer to the output. Its memory is local: some 100 KB.
-pub fn run(from: Input, to: Output) -> Given
+pub fn run(from: Input, to: Output) -> Went
     ensures { λ r. ⌜ ProgramRan r ⌝ }
 {
     let mut bytes = at_hand();

@@ -7,14 +7,14 @@ use lib.Seq.{length-take-le}
 use Rattle.ports.proofs.give.Statement.{statement}
 use Rattle.ports.proofs.give.Tie as tie
 
-slice-aggregate-write-all : tie.Need-slice-aggregate-write-all
-slice-aggregate-write-all c =
+slice-aggregate-write-whole : tie.Need-slice-aggregate-write-whole
+slice-aggregate-write-whole c =
     let a = c .before .before .before in
     let l : length (a .args .frame .now) ≡ 16385 = search needs in
     sym (length-take-le (a .args .put) (a .args .frame .now) (omega (arith, a .pre .0)))
 
-write-all-requires : tie.Need-write-all-requires
-write-all-requires c κs = search needs
+write-whole-requires : tie.Need-write-whole-requires
+write-whole-requires c κs = search needs
 
 add-total : tie.Need-add-total
 add-total c = search needs
@@ -29,4 +29,4 @@ returns-2 : tie.Need-returns-2
 returns-2 c = search needs
 
 pub give-spec : {M : Type 1} → statement M
-give-spec = tie.close (tie.spec slice-aggregate-write-all write-all-requires add-total add-t12 returns returns-2)
+give-spec = tie.close (tie.spec slice-aggregate-write-whole write-whole-requires add-total add-t12 returns returns-2)
