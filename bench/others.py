@@ -175,7 +175,7 @@ def measure(run, window, pixels):
 def main():
     folder, results = pathlib.Path(sys.argv[1]), pathlib.Path(sys.argv[2])
     known = {}      # nanoseconds per pixel by library, sample and window: what to expect of the next, larger one
-    for line in results.read_text().splitlines():
+    for line in dict.fromkeys(results.read_text().splitlines()):     # several processes wrote the same sums
         if not line.startswith('sum\t'):
             continue
         _, sample, picture, size, window, expected = line.split('\t')

@@ -2,8 +2,8 @@
 # Measures the proved code against the same method in C, van Herk's method in C and what other libraries are installed,
 # and prints tables. bench/README.md says what is measured and what the libraries are called.
 #
-#     bench/run.sh [RUNS]       RUNS rounds for the medians, 5 where it is not given
-#     PYTHON=..                 the Python that sees the libraries, python3 where it is not given
+#     bench/run.sh [RUNS [PROCESSES]]   RUNS rounds, 5 where it is not given, in each of PROCESSES processes, 7 where it is not given
+#     PYTHON=..                         the Python that sees the libraries, python3 where it is not given
 #
 # Needs the kit and a C compiler for this machine, cc. The proved code is measured where bench/main.txt is there.
 set -eu
@@ -30,7 +30,13 @@ printf '#pragma once\ntypedef __SIZE_TYPE__ size_t;\n' >$made/include/stddef.h
     -c bench/methods.c -o $made/methods.o
 cc -std=c99 -O2 -Wall -Wextra -Ibench -o $made/bench bench/bench.c $made/methods.o $proved -lm
 
-$made/bench $made/pictures "${1:-5}" >$made/results
+# Where the system puts a process's stack moves a time by up to a third: so several processes, and the medians over them.
+: >$made/results
+process=0
+while [ $process -lt "${2:-7}" ]; do
+    $made/bench $made/pictures "${1:-5}" >>$made/results
+    process=$((process + 1))
+done
 # (c) The other libraries.
 "${PYTHON:-python3}" bench/others.py $made/pictures $made/results >$made/others
 "${PYTHON:-python3}" bench/table.py $made/results $made/others

@@ -1,13 +1,26 @@
 #!/usr/bin/env python3
-"""Prints the lines of bench and others.py, given as files, as tables."""
+"""Prints the lines of bench and others.py, given as files, as tables: medians over the processes that measured the same."""
+import statistics
 import sys
 
 METHODS = ('proved', 'queue in C', 'van Herk in C', 'OpenCV', 'SciPy', 'scikit-image', 'Leptonica', 'libvips', 'ImageMagick')
+# How many fields at a line's end are measured, and so differ from process to process.
+MEASURED = {'time': 1, 'count': 1, 'latency': 2, 'memory': 1}
 
 
 def read(paths):
-    lines = [line.rstrip('\n').split('\t') for path in paths for line in open(path)]
-    return {kind: [line[1:] for line in lines if line[0] == kind] for kind in ('time', 'count', 'latency', 'memory')}
+    """The lines by their kind. Each field that was measured is a list, of what each process measured."""
+    several = {}
+    for path in paths:
+        for line in open(path):
+            kind, *fields = line.rstrip('\n').split('\t')
+            if kind in MEASURED:
+                at = len(fields) - MEASURED[kind]
+                several.setdefault((kind, *fields[:at]), []).append(fields[at:])
+    found = {kind: [] for kind in MEASURED}
+    for (kind, *fields), measured in several.items():
+        found[kind].append(fields + list(zip(*measured)))
+    return found
 
 
 def groups(lines, fields):
@@ -18,49 +31,70 @@ def groups(lines, fields):
     return found
 
 
-def show(head, rows):
-    widths = [max(len(str(row[at])) for row in [head, *rows]) for at in range(len(head))]
-    for row in [head, *rows]:
-        print('  '.join(str(cell).rjust(width) for cell, width in zip(row, widths)))
-    print()
+def numbers(cells):
+    return [float(cell.rstrip('*')) for cell in cells]
+
+
+def median(cells):
+    """The median, with as many digits as each has, and with a star where one has one; a dash where there is none."""
+    if not cells:
+        return '-'
+    digits = len(cells[0].rstrip('*').partition('.')[2])
+    return '%.*f%s' % (digits, statistics.median(numbers(cells)), '*' if any(cell.endswith('*') for cell in cells) else '')
 
 
 def ratio(above, below):
-    numbers = [float(cell.rstrip('*')) if cell != '-' else 0 for cell in (above, below)]
-    return '%.2f' % (numbers[0] / numbers[1]) if all(numbers) else '-'
+    """The median of the ratios that the processes find, each in itself: what slows a process slows both sides."""
+    if not above or not below:
+        return '-'
+    return '%.2f' % statistics.median(a / b for a, b in zip(numbers(above), numbers(below)))
+
+
+def show(head, rows):
+    """A table, with its columns set off so that it can be read as it stands."""
+    lines = [[str(cell) for cell in row] for row in [head, *rows]]
+    widths = [max(len(line[at]) for line in lines) for at in range(len(head))]
+    lines.insert(1, ['-' * (width - 1) + ':' for width in widths])
+    for line in lines:
+        print('| ' + ' | '.join(cell.rjust(width) for cell, width in zip(line, widths)) + ' |')
+    print()
 
 
 def show_times(lines, counts):
     for (sample, picture, size), entries in groups(lines, 3).items():
         compared = dict(groups(counts, 3)[sample, picture, size])
-        cost = {(method, window): value for window, method, value in entries}
+        cost = {(method, window): cells for window, method, cells in entries}
         windows = list(dict.fromkeys(window for window, _, _ in entries))
         present = [method for method in METHODS if any((method, window) in cost for window in windows)]
-        at = lambda method, window: cost.get((method, window), '-')
-        print('%s, %s, %s: nanoseconds per pixel' % (sample, picture, size))
-        rows = [[window] + [at(method, window) for method in present] + [ratio(at('proved', window), at('queue in C', window)), compared[window]]
-                for window in windows]
+        at = lambda method, window: cost.get((method, window), ())
+        print('%s, %s, %s: nanoseconds per pixel\n' % (sample, picture, size.replace('x', ' × ')))
+        rows = [[window] + [median(at(method, window)) for method in present]
+                + [ratio(at('proved', window), at('queue in C', window)), median(compared[window])] for window in windows]
         growth = [ratio(at(method, windows[-1]), at(method, windows[0])) for method in present]
         more = ratio(compared[windows[-1]], compared[windows[0]])
         show(['window', *present, 'proved/queue', 'comparisons'], rows + [['largest/smallest', *growth, '', more]])
 
 
 def show_latencies(lines):
-    for (sample, picture, width), entries in groups(lines, 3).items():
-        print('%s, %s, %s wide: microseconds for a row' % (sample, picture, width))
-        show(['window', 'method', 'median', 'worst'], entries)
+    print('microseconds for a row: the median row and the worst\n')
+    rows = []
+    for (sample, picture, width, window), entries in groups(lines, 4).items():
+        by_method = {method: [median(cells) for cells in both] for method, *both in entries}
+        rows.append(['%s, %s, %s wide' % (sample, picture, width), window]
+                    + by_method.get('proved', ['-', '-']) + by_method['queue in C'])
+    show(['samples, picture', 'window', 'proved: median', 'worst', 'queue in C: median', 'worst'], rows)
 
 
 def show_memory(lines):
     for (sample, width), entries in groups(lines, 2).items():
-        print('%s, %s wide: bytes of working memory beside a row in and a row out' % (sample, width))
-        show(['window', 'method', 'bytes'], entries)
+        print('%s, %s wide: bytes of working memory beside a row in and a row out\n' % (sample, width))
+        show(['window', 'method', 'bytes'], [[window, method, median(cells)] for window, method, cells in entries])
 
 
 if __name__ == '__main__':
     found = read(sys.argv[1:])
     show_times(found['time'], found['count'])
-    if any(line[-1].endswith('*') for line in found['time']):
+    if any(cell.endswith('*') for line in found['time'] for cell in line[-1]):
         print('* its answer is not the largest value of the window at every pixel\n')
     show_latencies(found['latency'])
     show_memory(found['memory'])

@@ -3,9 +3,6 @@ use borrow.Author.Needs.{needs}
 use Rattle.row_grey.proofs.read_all.Statement.{statement}
 use Rattle.row_grey.proofs.read_all.Tie as tie
 
-empty-requires : tie.Need-empty-requires
-empty-requires c κs = search needs
-
 enum-told : tie.Need-enum-told
 enum-told c = search needs
 
@@ -22,16 +19,13 @@ same-length : tie.Need-same-length
 same-length c = search needs
 
 returns : tie.Need-returns
-returns c = rw (c .before .before .before .before .enum-told .given .1) (c .before .before .read-row .ensures)
+returns c = rw (c .before .before .before .before .before .before .enum-told .given .1) (c .before .before .read-row .ensures)
 
 same-length-2 : tie.Need-same-length-2
 same-length-2 c = search needs
 
 returns-2 : tie.Need-returns-2
-returns-2 c = rw (c .before .before .before .before .enum-told2 .given .1) (c .before .before .read-row2 .ensures)
+returns-2 c = rw (c .before .before .before .before .before .before .enum-told2 .given .1) (c .before .before .read-row2 .ensures)
 
 pub read-all-spec : {M : Type 1} → statement M
-read-all-spec =
-    tie.close
-    (tie.spec
-    empty-requires enum-told read-row-requires enum-told-2 read-row-requires-2 same-length returns same-length-2 returns-2)
+read-all-spec = tie.close (tie.spec enum-told read-row-requires enum-told-2 read-row-requires-2 same-length returns same-length-2 returns-2)

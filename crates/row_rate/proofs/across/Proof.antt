@@ -3,6 +3,9 @@ use borrow.Author.Needs.{needs}
 use Rattle.row_rate.proofs.across.Statement.{statement}
 use Rattle.row_rate.proofs.across.Tie as tie
 
+empty-requires : tie.Need-empty-requires
+empty-requires c κs = search needs
+
 read-all-requires : tie.Need-read-all-requires
 read-all-requires c κs = search needs
 
@@ -13,7 +16,7 @@ same-length : tie.Need-same-length
 same-length c = search needs
 
 returns : tie.Need-returns
-returns c = c .before .before .drain-row .ensures .1 _ _ _ (c .before .before .before .before .before .before .before .read-all .ensures)
+returns c = c .before .before .drain-row .ensures .1 _ _ _ (c .before .before .before .before .before .before .read-all .ensures)
 
 pub across-spec : {M : Type 1} → statement M
-across-spec = tie.close (tie.spec read-all-requires drain-row-requires same-length returns)
+across-spec = tie.close (tie.spec empty-requires read-all-requires drain-row-requires same-length returns)
