@@ -24,10 +24,6 @@ size_t fwrite(const void *, size_t, size_t, FILE *);
 int fputs(const char *, FILE *);
 int fflush(FILE *);
 H
-cat >$made/include/stdlib.h <<'H'
-#include <stddef.h>
-unsigned long strtoul(const char *, char **, int);
-H
 
 compile() { # LANGUAGE STANDARD FILE WORDS..
     language=$1 standard=$2 file=$3; shift 3
@@ -44,4 +40,9 @@ program() { # NAME FILE: builds $made/NAME over the archive
     compile c c99 "$2" -Ifirmware -c -o $made/$1.o
     "$own/bin/rattle-link" --target x86_64-unknown-linux-gnu --toolchain "$own/toolchain" -o $made/$1 $made/$1.o \
         target/staticlib/libfirmware.a 2>>$made/log
+}
+guarded() { # WHAT COMMAND..: the command does WHAT, and has to die of it: of the fault SIGSEGV, which is status 139, and of nothing else
+    what=$1; shift
+    status=0; ("$@") >$made/beyond 2>&1 || status=$?
+    [ $status -eq 139 ] || { echo "$what, and the run ends with $status and not with the fault, 139:"; sed -n l $made/beyond; exit 1; }
 }

@@ -10,12 +10,33 @@ compile c++ c++11 firmware/kelafshir.h -fsyntax-only
 for name in test bench job; do program $name firmware/$name.c; done
 
 # The guards guard: one byte too far must be the end of the run.
-if (run $made/test beyond) >>$made/log 2>&1; then echo 'a byte past the row was read unnoticed'; exit 1; fi
+guarded 'a byte past the row is read' run $made/test beyond
+
 # The example: line P of document 01 dilated with left 1, right 2, twice; then a row cut short, which is 13.
-twice=$(printf '\3\1\4\1\5\11\2\6\3\1\4\1\5\11\2\6' | run $made/bench 1 1 2 8 | od -An -v -tu1 | tr -d ' \n')
+line_p='\3\1\4\1\5\11\2\6'
+twice=$(printf "$line_p$line_p" | run $made/bench 1 1 2 8 | od -An -v -tu1 | tr -d ' \n')
 [ "$twice" = 3445999934459999 ] || { echo "the example gives $twice"; exit 1; }
-status=0; printf '\3\1\4' | run $made/bench 1 1 2 8 || status=$?
-[ $status -eq 13 ] || { echo "the example ends with $status on a row cut short"; exit 1; }
+ends_with() { # STATUS ROWS WORDS..: how the example ends
+    due=$1 rows=$2; shift 2
+    status=0; printf "$rows" | run $made/bench "$@" >$made/out 2>$made/said || status=$?
+    [ $status -eq $due ] || { echo "the example ends with $status, not with $due, on the words '$*'"; exit 1; }
+}
+ends_with 13 '\3\1\4' 1 1 2 8
+# A word that is not a number gives the usage text and 64; a number that is too large is refused as such, however large it is.
+misused() { # WORDS..
+    ends_with 64 "$line_p" "$@"
+    usage='bench KIND LEFT RIGHT WIDTH < rows > filtered'
+    [ ! -s $made/out ] && [ "$(cat $made/said)" = "$usage" ] || { echo "the example gives more or less than its usage text on the words '$*'"; exit 1; }
+}
+for word in 8x x 1x2 '' ' 1' '1 ' +1 -1 0x1 1.0; do
+    misused "$word" 1 2 8; misused 1 "$word" 2 8; misused 1 1 "$word" 8; misused 1 1 2 "$word"
+done
+misused; misused 1 1 2; misused 1 1 2 8 8
+for large in 256 65536 4294967297 18446744073709551617; do
+    ends_with 2 "$line_p" $large 1 2 8; ends_with 3 "$line_p" 1 $large 2 8; ends_with 3 "$line_p" 1 1 $large 8
+done
+for width in 0 65536 65537 4294967304 18446744073709551624; do ends_with 4 "$line_p" 1 1 2 $width; done
+
 # The other example: document 01's whole case, and the same job without its last byte, which is 13.
 whole=$(printf '\1\1\1\0\0\0\0\3\0\1\0\5\2\7' | run $made/job | od -An -v -tx1 | tr -d ' \n')
 [ "$whole" = 020003000100010507070000 ] || { echo "the job gives $whole"; exit 1; }

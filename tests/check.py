@@ -4,25 +4,31 @@
     python3 tests/check.py [COUNT] [--seed N] [--program PATH]
     python3 tests/check.py --self
 
-COUNT random jobs, whole and damaged, the same ones for the same seed. A difference is printed with its job in
-hexadecimal. --self needs no program: it holds definition.py to the answers that document 01 prints, and the random jobs
-to giving every number that the program can give.
+COUNT random jobs, small, tall and wide, whole and damaged, the same ones for the same seed; before them three tall ones that
+are fed in pieces. A difference is printed with its job in hexadecimal. --self needs no program: it holds definition.py to the
+answers that document 01 prints, and the random jobs to giving every number that the program can give, and late in tall jobs and in
+wide ones every number that a row can give.
 """
 import argparse
 import collections
-import itertools
 import os
 import pathlib
 import random
 import select
+import struct
 import subprocess
 import sys
 
 from cases import cases
-from definition import answer
-from jobs import random_jobs
+from definition import GREY, answer
+from jobs import narrow_jobs, random_jobs
 
 TOP = pathlib.Path(__file__).resolve().parent.parent
+
+
+def make_ready(program):
+    """The first use of ./kelafshir may prove and build it, for minutes, and tells of it on standard error. That is no part of a job."""
+    subprocess.run([program], input=b'', stdout=subprocess.DEVNULL, timeout=3600)
 
 
 def at_once(program, given):
@@ -61,18 +67,30 @@ def differs(name, given, expected, got, complaint=''):
     """1 where the bytes differ or there is a complaint, and says so; else 0."""
     if got == expected and not complaint:
         return 0
+    first = len(os.path.commonprefix([expected, got]))
+    start = max(0, first - 16)
     print('DIFFERENCE', name, complaint)
-    print('  job      %s\n  expected %s\n  got      %s' % (given.hex(), expected.hex(), got.hex()))
+    print('  job %s\n  differs at byte %d; from byte %d on' % (given.hex(), first, start))
+    print('  expected %s\n  got      %s' % (expected[start:start + 64].hex(), got[start:start + 64].hex()))
     return 1
 
 
+def all_jobs(rng, count):
+    """Each job: its name, its bytes, its answer where document 01 prints it, and whether it is fed in pieces."""
+    for name, given, expected in cases():
+        yield name, given, expected, False
+    for at, given in enumerate(narrow_jobs(rng)):
+        yield 'narrow %d' % at, given, None, True
+    for at, given in enumerate(random_jobs(rng, count)):
+        yield str(at), given, None, at % 20 == 19 and len(given) < 2000
+
+
 def check_program(program, count, rng):
+    make_ready(program)
     passed = failed = 0
     numbers = collections.Counter()
-    several = ((str(at), given, None) for at, given in enumerate(random_jobs(rng, count)))
-    for at, (name, given, expected) in enumerate(itertools.chain(cases(), several)):
+    for name, given, expected, is_fed_slowly in all_jobs(rng, count):
         expected = expected or answer(given)
-        is_fed_slowly = at % 20 == 19 and len(given) < 2000
         try:
             got, complaint = in_pieces(program, given, rng) if is_fed_slowly else at_once(program, given)
         except subprocess.TimeoutExpired:
@@ -84,16 +102,31 @@ def check_program(program, count, rng):
     return passed, failed
 
 
+def size_of(expected):
+    """'tall' where late rows are written, 'wide' where columns past 2,047 are; a refused head has no size and is small."""
+    if expected[0] == 0:
+        return 'small'
+    sample, width, _ = struct.unpack('<BHH', expected[1:6])
+    rows = (len(expected) - 8) // (1 + width * (1 if sample == GREY else 4))
+    return 'tall' if rows >= 150 else 'wide' if width > 2048 else 'small'
+
+
+EVERY_NUMBER = {'small': (0, 1, 2, 3, 4, 5, 8, 13, 14, 15), 'tall': (0, 8, 13, 14), 'wide': (0, 8, 13, 14)}
+
+
 def check_definition(rng):
     passed = failed = 0
     for name, given, expected in cases():
         wrong = differs(name, given, expected, answer(given))
         failed, passed = failed + wrong, passed + 1 - wrong
-    numbers = {answer(given)[-1] for given in random_jobs(rng, 1000)}
-    missing = {0, 1, 2, 3, 4, 5, 8, 13, 14, 15} - numbers
-    if missing:
-        print('no random job gives', sorted(missing))
-    return passed + (not missing), failed + bool(missing)
+    answers = [answer(given) for given in random_jobs(rng, 1000)]
+    found = {(size_of(expected), expected[-1]) for expected in answers}
+    for size, numbers in EVERY_NUMBER.items():
+        missing = [number for number in numbers if (size, number) not in found]
+        if missing:
+            print('no %s random job gives' % size, missing)
+        failed, passed = failed + bool(missing), passed + (not missing)
+    return passed, failed
 
 
 def main():

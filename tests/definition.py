@@ -2,8 +2,8 @@
 """What the program must answer, by the two-dimensional definition of document 01 and nothing cleverer.
 
 A stage is the smallest or largest value over a cut rectangle, taken at every pixel of a whole picture; a plan is one
-stage after another on whole pictures. No queue, no row by row. As a command it reads a job and writes the answer, so
-that it can stand in for the program.
+stage after another on whole pictures. No queue, no row by row. As a command it reads a whole job from standard input, to
+its end, and only then writes the answer to standard output: the program's bytes, but not when the program writes them.
 """
 import io
 import math

@@ -34,9 +34,33 @@ def float_job(plan, rows):
     return bytes([len(plan)]) + b''.join(map(bytes, plan)) + head + b''.join(map(floats, rows))
 
 
+def noise(x, y):
+    """A byte that looks like chance: one step of a linear congruential generator, from x and y."""
+    return ((x * 73856093 ^ y * 19349663) * 1664525 + 1013904223) % 2 ** 32 >> 24
+
+
+def drawn(x, y):
+    """A byte of slopes up and down with noise on them: no row repeats, and on a slope the first and the last pixel of a window tell."""
+    return abs((2 * x + y) % 382 - 191) + noise(x, y) % 64
+
+
+def grey_rows(width, rows):
+    return [bytes(drawn(x, y) for x in range(width)) for y in range(rows)]
+
+
+def rate_rows(width, rows):
+    """The same slopes in floats of both signs, with more noise after the point."""
+    return [[drawn(x, y) / 8 - 12 + noise(y, x) / 4096 for x in range(width)] for y in range(rows)]
+
+
 def changed(given, at, *values):
     """The job with other bytes from a place on."""
     return given[:at] + bytes(values) + given[at + len(values):]
+
+
+def with_rows(rows, given):
+    """The job with another row count in its head."""
+    return changed(given, 4 + 5 * given[0], *struct.pack('<H', rows))
 
 
 def plans():
@@ -132,11 +156,78 @@ def sizes():
     yield 'all extents 31, fewer rows than the look-ahead', job([(DILATION, 31, 31, 31, 31)] * 4, [bytes(ramp[at:at + 10]) for at in range(5)])
 
 
+def cut_pixels():
+    """A row that holds a not-a-number: 13 where it is cut behind that, and 8 where it is all there, also where the job ends with it."""
+    for name, plan in ('', ONE), ('look-ahead, ', AHEAD):
+        for row in range(3):
+            given = with_rows(3, float_job(plan, RATES[:row] + [[0.5, math.nan, -math.inf]]))
+            yield '%sa not-a-number in row %d, cut behind it' % (name, row), given[:-4]
+            yield '%sa not-a-number in row %d, a byte less' % (name, row), given[:-1]
+            yield '%sa not-a-number in row %d, and the job ends with it' % (name, row), given
+
+
+OPENING = [(EROSION, 2, 1, 31, 31), (DILATION, 2, 1, 31, 31)]
+THREE = [(DILATION, 1, 0, 3, 1), (EROSION, 0, 2, 31, 31), (DILATION, 1, 1, 0, 2)]
+# the alternate sequential filter of order 4
+SIXTEEN = [(kind, order, order, order, order) for order in range(1, 5) for kind in (EROSION, DILATION, DILATION, EROSION)]
+
+
+def tall():
+    """300 and 2,000 rows, none like another, through windows of 63 down among others."""
+    for name, plan in ('dilated', [(DILATION, 31, 31, 31, 31)]), ('eroded', [(EROSION, 31, 31, 31, 31)]):
+        yield '300 rows, %s by 63 x 63' % name, job(plan, grey_rows(65, 300))
+        yield '300 rows of floats, %s by 63 x 63' % name, float_job(plan, rate_rows(12, 300))
+    for name, plan in ('an opening with a window of 63 down', OPENING), ('16 stages', SIXTEEN):
+        yield '300 rows, ' + name, job(plan, grey_rows(20, 300))
+        yield '300 rows of floats, ' + name, float_job(plan, rate_rows(8, 300))
+    for name, plan in ('an opening with a window of 63 down', OPENING), ('three stages with a window of 63 down', THREE):
+        yield '2,000 rows, ' + name, job(plan, grey_rows(8, 2000))
+        yield '2,000 rows of floats, ' + name, float_job(plan, rate_rows(3, 2000))
+
+
+def damaged_late(rows, greys, rates):
+    """13, 8 and 14 late in jobs of so many rows: what is due before is written."""
+    late, size = rows * 4 // 5, len(rates[0])
+    spoiled = rates[:late] + [[0.0] * (size - 2) + [math.nan, 0.5]]
+    name = '{:,} rows, '.format(rows)
+    yield name + 'a byte after', job(THREE, greys) + b'\0'
+    yield name + 'cut at row %d' % late, with_rows(rows, job(THREE, greys[:late]))
+    yield name + 'cut in the last row', job(THREE, greys)[:-1]
+    yield name + 'a byte after floats', float_job(THREE, rates) + b'\0'
+    yield name + 'cut in row %d, floats' % late, with_rows(rows, float_job(THREE, rates[:late + 1]))[:-5]
+    yield name + 'a not-a-number in row %d' % late, float_job(THREE, spoiled + rates[late + 1:])
+    yield name + 'a not-a-number in the last row and column', float_job(THREE, rates[:-1] + [rates[-1][:-1] + [math.nan]])
+    yield name + 'a not-a-number in row %d, cut behind it' % late, with_rows(rows, float_job(THREE, spoiled))[:-4]
+    yield name + 'a not-a-number in row %d, a byte less' % late, with_rows(rows, float_job(THREE, spoiled))[:-1]
+
+
+def tall_damaged():
+    yield from damaged_late(300, grey_rows(8, 300), rate_rows(5, 300))
+    yield from damaged_late(2000, grey_rows(4, 2000), rate_rows(2, 2000))
+
+
+def wide():
+    """Columns past 2,047, none like another, windows of 63 across among others; whole and damaged there."""
+    for kind, name in (EROSION, 'eroded'), (DILATION, 'dilated'):
+        yield 'width 4,096, 4 rows, %s by 63' % name, job([(kind, 31, 31, 0, 0)], grey_rows(4096, 4))
+        yield 'width 4,096, 2 rows of floats, %s by 63' % name, float_job([(kind, 31, 31, 0, 0)], rate_rows(4096, 2))
+        yield 'width 2,049, 4 rows, %s with left 31' % name, job([(kind, 31, 0, 0, 0)], grey_rows(2049, 4))
+        yield 'width 3,001, 2 rows of floats, %s with left 5, right 31' % name, float_job([(kind, 5, 31, 0, 0)], rate_rows(3001, 2))
+    plan, rates = [(DILATION, 31, 31, 0, 0)], rate_rows(2100, 2)
+    spoiled = [rates[0], rates[1][:2090] + [math.nan] + rates[1][2091:]]
+    yield 'width 4,096, a byte after', job(plan, grey_rows(4096, 2)) + b'\0'
+    yield 'width 4,096, cut in the last column', job(plan, grey_rows(4096, 2))[:-1]
+    yield 'width 2,100, a not-a-number in column 2,090', float_job(plan, spoiled)
+    yield 'width 2,100, a not-a-number in column 2,090, cut behind it', float_job(plan, spoiled)[:-36]
+    yield 'width 2,100, a not-a-number in column 2,090, a byte less', float_job(plan, spoiled)[:-1]
+
+
 def jobs():
     for name, given, expected in cases():
         assert answer(given) == expected, name
         yield name, given
-    for group in plans, heads, cuts, ends, pixels, sizes:
+    # What is added goes to the end: docs/ACCEPTANCE.md names the files by their numbers.
+    for group in plans, heads, cuts, ends, pixels, sizes, cut_pixels, tall, tall_damaged, wide:
         yield from group()
 
 
