@@ -30,7 +30,8 @@ printf '#pragma once\ntypedef __SIZE_TYPE__ size_t;\n' >$made/include/stddef.h
     -c bench/methods.c -o $made/methods.o
 cc -std=c99 -O2 -Wall -Wextra -Ibench -o $made/bench bench/bench.c $made/methods.o $proved -lm
 
-# Where the system puts a process's stack moves a time by up to a third: so several processes, and the medians over them.
+# Where a process's stack lies against the rest of its memory moves a time, at some places by more than a quarter: so several processes,
+# and the medians over them.
 : >$made/results
 process=0
 while [ $process -lt "${2:-7}" ]; do

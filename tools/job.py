@@ -7,7 +7,7 @@
 
 A PLAN is stages joined by commas, such as  opening 1, closing 2  or  dilation 1 0 0 0: a name, and one number for all
 extents or four for left, right, up and down. The names are erosion, dilation, opening, closing, and alternating with
-its order, 1 to 4. What the program would refuse is told and not made, unless --anyway is given.
+its order, 1 to 4. What would be refused is told and not made, unless --anyway is given.
 
 A picture is a plain PGM (P2, maxval 1 to 255) or, without that head, a rate map: rows of numbers, a line each.
 docs/JOBS.md says more, docs/NUMBERS.md has the numbers and the exit statuses.
