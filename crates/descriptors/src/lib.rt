@@ -88,16 +88,18 @@ fn write_some(fd: i32, bytes: &[u8]) -> usize
     0
 }
 
-// Writes all bytes, and answers whether it did; says so where a write fails.
-pub fn write_whole(fd: i32, bytes: &[u8]) -> bool {
+// Writes all bytes, and answers how many were taken: fewer than all only where a write failed, and then it says so.
+pub fn write_whole(fd: i32, bytes: &[u8]) -> usize
+    ensures { λ r. ⌜ r ≤ length (now (bytes .entry)) ⌝ }
+{
     let mut done = 0;
     while done < bytes.len() {
         let taken = write_some(fd, &bytes[done..]);
         if taken == 0 {
             say_unwritten();
-            return false;
+            return done;
         }
         done += taken;
     }
-    true
+    done
 }

@@ -2,7 +2,7 @@
 use mathlib.Core.Path.{_≡_}
 use mathlib.Core.Bool.{true, false}
 use mathlib.Core.List.{List, [], _++_}
-use Prim.Native.Nat.{ℕ, _+_, _≤_}
+use Prim.Native.Nat.{ℕ, _+_, _≤_, _<_}
 use lib.Dec.{ltb}
 use lib.ListN.{length, take, drop}
 use Rattle.answer.specs.Answer.{answerOf}
@@ -27,7 +27,7 @@ pub record Comes (before : Moved) (size total got : ℕ) (m : Moved) : Type 0 wh
 -- so many bytes came; or a read failed, before the input's end, and what was moved before it is known
 abbrev pub Receives : Moved → ℕ → ℕ → ℕ → Went → Type 0
 Receives before size total got (Through m) = Comes before size total got m
-Receives before size total got (Lost l) = (l .moved ≡ before) × (before .ended ≡ false) × (got ≡ 0)
+Receives before size total got (Lost l) = (l .moved ≡ before) × (before .ended ≡ false) × (got ≡ 0) × (l .taken ≡ 0)
 
 -- What may be written next: the bytes of the answer from the place on where the last write stopped. The bytes at hand are the last that came, after some earlier ones; whatever comes
 -- behind them, and nothing does once the input has ended, these bytes of the answer are the same.
@@ -36,7 +36,7 @@ pub record Due (before : Moved) (hand frame : List ℕ) (put : ℕ) : Type 0 whe
   pub read : before .read ≡ length earlier + length hand
   pub next : (rest : List ℕ) → (before .ended ≡ true → rest ≡ []) → take put frame ≡ take put (drop (before .given) (answerOf (earlier ++ hand ++ rest)))
 
--- so many bytes more were given; or a write failed, and what was moved before it is known
+-- so many bytes more were given; or a write failed, fewer were taken, and what was moved before it is known
 abbrev pub Gave : Moved → ℕ → ℕ → Went → Type 0
 Gave before put total (Through m) = (m ≡ record { read = before .read; ended = before .ended; given = before .given + put }) × (total ≡ m .read + m .given)
-Gave before put total (Lost l) = l .moved ≡ before
+Gave before put total (Lost l) = (l .moved ≡ before) × (l .taken < put)

@@ -51,9 +51,11 @@ pub struct Moved {
     given: usize,
 }
 
-// A read or a write that failed, and what was moved before it. The field is seen in this crate alone, so that nothing else fails.
+// A read or a write that failed, what was moved before it, and how many bytes of the write were taken all the same. The fields are seen in this crate alone, so that nothing
+// else fails.
 pub struct Loss {
     moved: Moved,
+    taken: usize,
 }
 
 // What was to be moved went through; or a read or a write failed, and nothing more can be told: a job that cannot be read has not ended early.
@@ -91,8 +93,12 @@ pub fn receive(from: Input, before: Moved, part: &mut [u8], total: &mut usize) -
     }
     let filled = descriptors::fill(from.fd, part);
     let Filled::With(got) = filled else {
+        let loss = Loss {
+            moved: before,
+            taken: 0,
+        };
         return Received {
-            went: Went::Lost(Loss { moved: before }),
+            went: Went::Lost(loss),
             got: 0,
         };
     };
@@ -109,7 +115,7 @@ pub fn receive(from: Input, before: Moved, part: &mut [u8], total: &mut usize) -
 
 // Gives the front of a frame to be written; where nothing is put the system is not called. What is given has to be what is due: the next bytes of the answer, for input whose
 // last bytes are those at hand, which are lent so that the contract can speak of them. The frame is an array of a length that no other buffer of the run has.
-// Of the total nothing is known after a write that failed: no call can follow it.
+// Counted is what was taken. Of the total nothing is known after a write that failed: no call can follow it.
 pub fn give(
     to: Output,
     before: Moved,
@@ -122,13 +128,18 @@ pub fn give(
     ensures { λ r. ⌜ Gave before put (now (total .exit)) r ⌝ }
 {
     let all: &[u8] = frame;
-    if descriptors::write_whole(to.fd, &all[..put]) {
-        *total = *total + put;
+    let taken = descriptors::write_whole(to.fd, &all[..put]);
+    if taken == put {
+        *total = *total + taken;
         return Went::Through(Moved {
             read: before.read,
             ended: before.ended,
-            given: before.given + put,
+            given: before.given + taken,
         });
     }
-    Went::Lost(Loss { moved: before })
+    let loss = Loss {
+        moved: before,
+        taken: taken,
+    };
+    Went::Lost(loss)
 }

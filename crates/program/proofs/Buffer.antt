@@ -55,7 +55,7 @@ module _ (bytes : List ℕ) (hand : Hand) (wants : ℕ) (there : hand .have ≤ 
   pub fetches-read : (ys : List ℕ) (total got : ℕ) (w : Went) → hand .have < wants → wants ≤ length bytes → length ys ≡ length (take (wants - hand .have) (drop (hand .have) bytes))
       → Receives (hand .moved) (length ys) total got w → Fetches bytes (putMid (hand .have) (wants - hand .have) bytes ys) hand wants total (hand .have + got) w
   fetches-read ys total got (Through m) h w y g = fetched-read ys total got m h w y g
-  fetches-read ys total got (Lost l) h w y g = g .0
+  fetches-read ys total got (Lost l) h w y g = (g .0, g .3)
 
 -- ---- keep
 

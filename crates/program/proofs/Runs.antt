@@ -58,6 +58,14 @@ wants-at Over wants S L f o m = absurd (true≢false o)
 pub wants-few : {m : Machine} {L : MachineMemory} → Stands m L → isOver (m .phase) ≡ false → m .wants ≤ 16384
 wants-few {m} {L} s o = wants-at (m .phase) (m .wants) (m .state) L (s .f) o (s .means)
 
+-- ---- what is lost
+
+-- a loss lies within what was moved: as many bytes read, the same end, and no more bytes taken than were given
+record Within (l : Loss) (m : Moved) : Type 0 where
+  read : l .moved .read ≡ m .read
+  ended : l .moved .ended ≡ m .ended
+  few : l .moved .given + l .taken ≤ m .given
+
 -- ---- the counts
 
 -- a turn moves no more than a buffer's bytes, and one turn less is left
@@ -150,16 +158,17 @@ module _ {hand : List ℕ} {L : MachineMemory} {m : Machine} {moved : Moved} (r 
             r .told rest e ∙ ap (λ l. r .out ++ l) (g .same rest (λ s. e (short s))) ∙ sym (append-assoc (r .out) (take (t .put) frame) (g .next (drop (t .used) hand ++ rest)));
       }
 
-  -- a read or a write failed: what was given before it is a beginning of the answer
-  pub runs-lost : (total : ℕ) {w : Went} {l : Loss} → w ≡ Lost l → l .moved ≡ moved → ProgramRan w × Settled w total
+  -- a read or a write failed: what was taken is no more than a beginning of the answer
+  runs-lost : (total : ℕ) {w : Went} {l : Loss} → w ≡ Lost l → Within l moved → ProgramRan w × Settled w total
   runs-lost total {w} {l} q e =
-      let c = ap (λ m. m .given) e ∙ r .given in
+      let c = r .given in
+      let k = e .few in
       rw q (
         record {
           came = r .came;
-          read = ap (λ m. m .read) e ∙ r .read;
+          read = e .read ∙ r .read;
           gave = λ rest s.
-              let n = ap length (r .told rest (λ t. s (ap (λ m. m .ended) e ∙ t))) ∙ length-append (r .out) (r .f (hand ++ rest)) in
+              let n = ap length (r .told rest (λ t. s (e .ended ∙ t))) ∙ length-append (r .out) (r .f (hand ++ rest)) in
               omega arith;
         },
         tt,
@@ -179,16 +188,24 @@ pub given-all : (before : Moved) {m : Moved} (put total : ℕ) {w : Went} → w 
     → (m ≡ record { read = before .read; ended = before .ended; given = before .given + put }) × (total ≡ m .read + m .given)
 given-all before put total q h = rw q at h
 
-pub given-lost : (before : Moved) {l : Loss} (put total : ℕ) {w : Went} → w ≡ Lost l → Gave before put total w → l .moved ≡ before
-given-lost before put total q h = rw q at h
+given-lost : (before : Moved) {l : Loss} (put total : ℕ) {w : Went} → w ≡ Lost l → Gave before put total w → Within l (record { read = before .read; ended = before .ended; given = before .given + put })
+given-lost before {l} put total q h =
+    let e : (l .moved ≡ before) × (l .taken < put) = rw q at h in
+    let g = ap (λ m. m .given) (e .0) in
+    let k = e .1 in
+    record { read = ap (λ m. m .read) (e .0); ended = ap (λ m. m .ended) (e .0); few = omega arith }
 
 -- the same of a read
 pub fetched-had : (bytes bytes′ : List ℕ) (hand : Hand) (wants total have : ℕ) {w : Went} {m : Moved} → w ≡ Through m → Fetches bytes bytes′ hand wants total have w
     → Fetched bytes bytes′ hand wants total (record { moved = m; have = have })
 fetched-had bytes bytes′ hand wants total have q h = rw q at h
 
-pub fetched-lost : (bytes bytes′ : List ℕ) (hand : Hand) (wants total have : ℕ) {w : Went} {l : Loss} → w ≡ Lost l → Fetches bytes bytes′ hand wants total have w → l .moved ≡ hand .moved
-fetched-lost bytes bytes′ hand wants total have q h = rw q at h
+fetched-lost : (bytes bytes′ : List ℕ) (hand : Hand) (wants total have : ℕ) {w : Went} {l : Loss} → w ≡ Lost l → Fetches bytes bytes′ hand wants total have w → Within l (hand .moved)
+fetched-lost bytes bytes′ hand wants total have {w} {l} q h =
+    let e : (l .moved ≡ hand .moved) × (l .taken ≡ 0) = rw q at h in
+    let g = ap (λ m. m .given) (e .0) in
+    let k = e .1 in
+    record { read = ap (λ m. m .read) (e .0); ended = ap (λ m. m .ended) (e .0); few = omega arith }
 
 -- ---- the bytes at hand in their buffer
 
@@ -207,6 +224,11 @@ going-first bytes total L m moved none room e q =
     let b = ap (λ m. m .given) q in
     let l : leftOf m ≡ 66199 = ap leftOf e in
     record { all = omega arith; runs = runs-first L m moved room e q; there = omega arith; read-few = rw l (omega arith); given-few = rw l (omega arith) }
+
+-- a read failed
+pub going-lost : {bytes : List ℕ} {hand : Hand} {total : ℕ} {L : MachineMemory} {m : Machine} → Going bytes hand total L m → (bytes′ : List ℕ) (total′ have : ℕ) {w : Went} {l : Loss} → w ≡ Lost l
+    → Fetches bytes bytes′ hand (m .wants) total′ have w → ProgramRan w × Settled w total′
+going-lost {bytes} {hand} {total} {L} {m} g bytes′ total′ have q f = runs-lost (g .runs) total′ q (fetched-lost bytes bytes′ hand (m .wants) total′ have q f)
 
 -- the counts that are at hand are the latest
 pub going-latest : {bytes : List ℕ} {hand : Hand} {total : ℕ} {L : MachineMemory} {m : Machine} → Going bytes hand total L m → Latest (hand .moved) total
@@ -248,6 +270,12 @@ module _ {bytes bytes′ : List ℕ} {hand next : Hand} {wants total total′ : 
     -- what the turn puts is due
     pub turned-due : (next .have < m .wants → next .moved .ended ≡ true) → Due (next .moved) (take (next .have) bytes′) frame (r .put)
     turned-due short = let n = hand-long in runs-due runs-fetch frame t (λ (s : length (take (next .have) bytes′) < m .wants). short (omega arith))
+
+    -- the write of what the turn puts failed
+    pub turned-lost : (next .have < m .wants → next .moved .ended ≡ true) → (total″ : ℕ) {w : Went} {l : Loss} → w ≡ Lost l → Gave (next .moved) (r .put) total″ w → ProgramRan w × Settled w total″
+    turned-lost short total″ q h =
+        let n = hand-long in
+        runs-lost (runs-turn runs-fetch t (λ (s : length (take (next .have) bytes′) < m .wants). short (omega arith)) refl) total″ q (given-lost (next .moved) (r .put) total″ q h)
 
     -- as many bytes were fetched as are wanted, or all there are; a turn was taken, its bytes were given, and the bytes that it left are kept
     pub going-next : {bytes″ : List ℕ} {moved : Moved} {total″ left : ℕ} → (next .have < m .wants → next .moved .ended ≡ true) → length bytes′ ≡ 16384 → length frame ≡ 16385 → length bytes″ ≡ length bytes′

@@ -27,4 +27,4 @@ pub record Fetched (bytes bytes′ : List ℕ) (hand : Hand) (wants total : ℕ)
 -- so many bytes are at hand; or a read failed, and what was moved before it is known
 abbrev pub Fetches : List ℕ → List ℕ → Hand → ℕ → ℕ → ℕ → Went → Type 0
 Fetches bytes bytes′ hand wants total have (Through m) = Fetched bytes bytes′ hand wants total (record { moved = m; have = have })
-Fetches bytes bytes′ hand wants total have (Lost l) = l .moved ≡ hand .moved
+Fetches bytes bytes′ hand wants total have (Lost l) = (l .moved ≡ hand .moved) × (l .taken ≡ 0)

@@ -2,7 +2,7 @@
 use mathlib.Core.Path.{_≡_}
 use mathlib.Core.Bool.{true}
 use mathlib.Core.List.{List, [], _++_}
-use Prim.Native.Nat.{ℕ, _≤_}
+use Prim.Native.Nat.{ℕ, _+_, _≤_}
 use lib.ListN.{length}
 use Rattle.answer.specs.Answer.{answerOf}
 use Rattle.ports.specs.declared.Moved.{Moved}
@@ -13,10 +13,10 @@ abbrev pub movedOf : Went → Moved
 movedOf (Through m) = m
 movedOf (Lost l) = l .moved
 
--- as many bytes as the answer has; where a read or a write failed, no more than that before it
+-- as many bytes as the answer has; where a read or a write failed, no more than that were taken, with those of the write itself
 abbrev pub GivenOf : List ℕ → Went → Type 0
 GivenOf answer (Through m) = m .given ≡ length answer
-GivenOf answer (Lost l) = l .moved .given ≤ length answer
+GivenOf answer (Lost l) = l .moved .given + l .taken ≤ length answer
 
 -- There are bytes that came, as many as were read (of a part whose read failed, none). Whatever comes behind them, and nothing does once a read was short, as many bytes were given as the answer to it all has:
 -- so a run that no read cut short has read as far as the answer's length depends on what is read.

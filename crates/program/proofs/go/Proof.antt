@@ -6,7 +6,7 @@ use native.Mathlib.Omega.{arith}
 use lib.ListN.{length}
 use Rattle.turns.specs.Inner.{machineMemory, isOver, leftOf}
 use Rattle.program.specs.Inner.{Fetched}
-use Rattle.program.proofs.Runs.{Going, wants-few, runs-stands, runs-lost, runs-last, given-all, given-lost, fetched-had, fetched-lost, going-first, going-latest, runs-fetch, fetched-latest, hand-long, used-few, turned-due, going-next}
+use Rattle.program.proofs.Runs.{Going, wants-few, runs-stands, runs-last, given-all, fetched-had, going-first, going-lost, going-latest, runs-fetch, fetched-latest, hand-long, used-few, turned-due, turned-lost, going-next}
 use Rattle.program.proofs.go.Statement.{statement}
 use Rattle.program.proofs.go.Tie as tie
 
@@ -114,11 +114,7 @@ same-length-8 : tie.Need-same-length-8 Inv-loop μ-loop
 same-length-8 c = loop-at-fetch (fetch-at-told c) .loop .inv .8
 
 returns : tie.Need-returns Inv-loop μ-loop
-returns c =
-    let f = fetch-at-told c in
-    let l = loop-at-fetch f in
-    runs-lost (l .loop .inv .0 .runs) _ (c .enum-told .given .1)
-    (fetched-lost (l .loop .bytes) (f .fetch .last .1 .0) (l .loop .hand) (l .loop .machine .wants) (f .fetch .last .1 .1 .1 .1 .0) (f .fetch .result .have) (c .enum-told .given .1) (f .fetch .ensures))
+returns c = let f = fetch-at-told c in going-lost (loop-at-fetch f .loop .inv .0) (f .fetch .last .1 .0) (f .fetch .last .1 .1 .1 .1 .0) (f .fetch .result .have) (c .enum-told .given .1) (f .fetch .ensures)
 
 slice-reshare-prefix-turn : tie.Need-slice-reshare-prefix-turn Inv-loop μ-loop
 slice-reshare-prefix-turn c = had (c .before) .there
@@ -184,8 +180,8 @@ returns-2 : tie.Need-returns-2 Inv-loop μ-loop
 returns-2 c =
     let t = turn-at-send (c .before .before) in
     let w = went-at-turn t in
-    runs-lost (runs-fetch (loop-at-went w .loop .inv .0) (had w)) _ (c .enum-told2 .given .1)
-    (given-lost (w .went .given .0 .0) (t .turn .result .put) _ (c .enum-told2 .given .1) (c .before .before .send .ensures))
+    let f = fetch-at-went w in
+    turned-lost (loop-at-fetch f .loop .inv .0) (had w) (on-at-fetch f) (t .turn .ensures) (had w .short) _ (c .enum-told2 .given .1) (c .before .before .send .ensures)
 
 keep-requires : tie.Need-keep-requires Inv-loop μ-loop
 keep-requires c κs =
