@@ -1,7 +1,7 @@
-"""Document 01's cases that the program can show: a name, a job, and the answer that document 01 gives it."""
+"""Cases with their answers: a name, a job, and the answer to it. Document 01's, as far as the program can show them, and float patterns."""
 import struct
 
-from definition import DILATION, EROSION, GREY
+from definition import DILATION, EROSION, FLOAT, GREY
 
 
 def head(rows):
@@ -57,3 +57,32 @@ def cases():
     yield zeros('11 4,096 cells', high + [(EROSION, 0, 0, 31, 31), (EROSION, 0, 0, 1, 1), (EROSION, 0, 0, 0, 0)], 16, 0)
     yield zeros('11 4,097 cells', high + [(EROSION, 0, 0, 31, 20)], 17, 15)
     yield 'all rows that a job can have', job([(EROSION, 1, 1, 1, 1)], [b'\0'] * 65535), full_run([b'\0'] * 65535)
+
+
+# Bit patterns of floats, what they are, and whether they are finite: by IEEE 754's table of binary32.
+PATTERNS = (
+    (0x00000000, 'zero', True), (0x80000000, 'negative zero', True),
+    (0x00000001, 'smallest subnormal', True), (0x80000001, 'its negative', True),
+    (0x007fffff, 'largest subnormal', True), (0x807fffff, 'its negative', True),
+    (0x00800000, 'smallest normal', True), (0x80800000, 'its negative', True),
+    (0x3f800000, 'one', True), (0xbf800000, 'its negative', True),
+    (0x7f000000, 'the last exponent of a number', True), (0xff000000, 'its negative', True),
+    (0x7f7fffff, 'largest', True), (0xff7fffff, 'its negative', True),
+    (0x7f800000, 'infinity', False), (0xff800000, 'negative infinity', False),
+    (0x7f800001, 'first signalling not-a-number', False), (0xff800001, 'the same with the sign', False),
+    (0x7fbfffff, 'last signalling not-a-number', False), (0xffbfffff, 'the same with the sign', False),
+    (0x7fc00000, 'first quiet not-a-number', False), (0xffc00000, 'the same with the sign', False),
+    (0x7fffffff, 'last quiet not-a-number', False), (0xffffffff, 'the same with the sign', False))
+
+
+def patterns():
+    """Each pattern in the first, a middle and the last column of a row of halves that a window of one pixel leaves as it is: the row,
+    in which a negative zero is read as positive zero, or 8."""
+    width, half = 21, 0x3f000000
+    written = struct.pack('<BHH', FLOAT, width, 1)
+    for pattern, name, is_finite in PATTERNS:
+        for column in 0, 10, width - 1:
+            before, after = [half] * column, [half] * (width - 1 - column)
+            row, out = (struct.pack('<%dI' % width, *before, pixel, *after) for pixel in (pattern, 0 if pattern == 0x80000000 else pattern))
+            answered = b'\1' + out + b'\0\0' if is_finite else b'\0\10'
+            yield 'pattern %08x, %s, in column %d' % (pattern, name, column), bytes([1, DILATION, 0, 0, 0, 0]) + written + row, b'\2' + written + answered

@@ -1,13 +1,13 @@
 #!/usr/bin/env python3
-"""Holds the program to definition.py: every byte that it writes, on the cases of document 01 and on random jobs.
+"""Holds the program to definition.py: every byte that it writes, on the cases of document 01, on float patterns and on random jobs.
 
     python3 tests/check.py [COUNT] [--seed N] [--program PATH]
     python3 tests/check.py --self
 
 COUNT random jobs, small, tall and wide, whole and damaged, the same ones for the same seed; before them three tall ones that
 are fed in pieces. A difference is printed with its job in hexadecimal. --self needs no program: it holds definition.py to the
-answers that document 01 prints, and the random jobs to giving every number that the program can give, and late in tall jobs and in
-wide ones every number that a row can give.
+answers that document 01 prints and to those of the patterns' table, and the random jobs to giving every number that the program
+can give, and late in tall jobs and in wide ones every number that a row can give.
 """
 import argparse
 import collections
@@ -19,7 +19,7 @@ import struct
 import subprocess
 import sys
 
-from cases import cases
+from cases import cases, patterns
 from definition import GREY, answer
 from jobs import narrow_jobs, random_jobs
 
@@ -76,8 +76,8 @@ def differs(name, given, expected, got, complaint=''):
 
 
 def all_jobs(rng, count):
-    """Each job: its name, its bytes, its answer where document 01 prints it, and whether it is fed in pieces."""
-    for name, given, expected in cases():
+    """Each job: its name, its bytes, its answer where a table has it, and whether it is fed in pieces."""
+    for name, given, expected in *cases(), *patterns():
         yield name, given, expected, False
     for at, given in enumerate(narrow_jobs(rng)):
         yield 'narrow %d' % at, given, None, True
@@ -116,7 +116,7 @@ EVERY_NUMBER = {'small': (0, 1, 2, 3, 4, 5, 8, 13, 14, 15), 'tall': (0, 8, 13, 1
 
 def check_definition(rng):
     passed = failed = 0
-    for name, given, expected in cases():
+    for name, given, expected in *cases(), *patterns():
         wrong = differs(name, given, expected, answer(given))
         failed, passed = failed + wrong, passed + 1 - wrong
     answers = [answer(given) for given in random_jobs(rng, 1000)]

@@ -1,5 +1,5 @@
 #!/usr/bin/env python3
-"""Holds a job in memory to definition.py: every byte of the output, on the cases of document 01 and on random jobs.
+"""Holds a job in memory to definition.py: every byte of the output, on the cases of document 01, on float patterns and on random jobs.
 
     python3 tests/memory.py COUNT SEED COMMAND..
 
@@ -13,7 +13,7 @@ import struct
 import subprocess
 import sys
 
-from cases import cases
+from cases import cases, patterns
 from definition import GREY, answer
 from jobs import random_jobs
 
@@ -54,8 +54,9 @@ def differences(command, job, expected, rng):
 
 def main(count, seed, words):
     rng = random.Random(seed)
-    jobs = [given for _, given, _ in cases()] + list(random_jobs(rng, count))
-    printed = [expected for _, _, expected in cases()]
+    tables = [*cases(), *patterns()]
+    jobs = [given for _, given, _ in tables] + list(random_jobs(rng, count))
+    printed = [expected for _, _, expected in tables]
     passed = failed = 0
     with multiprocessing.Pool() as pool, subprocess.Popen(words, stdin=subprocess.PIPE, stdout=subprocess.PIPE) as command:
         defined = itertools.chain(printed, pool.imap(answer, jobs[len(printed):], 50))
