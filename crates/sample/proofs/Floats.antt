@@ -1,17 +1,16 @@
--- Laws of single floats: what `x - x == 0.0` and `x == 0.0` tell, what `plusZero` gives.
--- By which idea: a difference that is exactly zero is rounded to a zero, and a finite value m * 2 ^ e equals zero only where m is 0.
+-- Laws of single floats: what `x == 0.0` tells, what `plusZero` gives.
+-- By which idea: a finite value m * 2 ^ e equals zero only where m is 0.
 use mathlib.Core.Path.{_≡_, refl, sym, _∙_}
 use mathlib.Core.Bool.{Bool, true, false, not, false≢true}
-use Prim.Native.Nat.{ℕ, zero, suc, _+_, _*_, _^_, _<_}
-use native.Mathlib.Nat.{zero-mul, one-mul, mul-one, sub-self, mul-pos, pow-succ', le-refl}
+use Prim.Native.Nat.{ℕ, zero, suc, _*_, _^_, _<_}
+use native.Mathlib.Nat.{zero-mul, one-mul, mul-one, mul-pos, pow-succ'}
 use native.Mathlib.Omega.{arith}
-use borrow.Author.Tests.{eqb-true, eqb-false, eq-eqb, ne-eqb, le-ltb}
+use borrow.Author.Tests.{eqb-true, eqb-false, eq-eqb, ne-eqb}
 use lib.IntN.{ℤ, pos, negsuc}
 use lib.Dec.{T, eqb, eqb→eq}
 use lib.Pow.{pow-pos}
-use lib.Ieee.{Float, nan, inf, fin, Format, binary32, prec, emax, low, up, down, level, round, sum, add, sub, neg, eq, ne, fits, isNan, ofBits}
-use lib.Ieee.Fits.{up-pos, down-pos}
-use lib.Ieee.Exact.{HasValue, round-exact}
+use lib.Ieee.{Float, nan, inf, fin, Format, binary32, up, down, level, eq, ne, fits, isNan, ofBits}
+use lib.Ieee.Fits.{up-pos}
 use lib.Ieee.Scale.{finite}
 use Rattle.morph.specs.Rate.{plusZero}
 use Rattle.morph.proofs.Lists.{split}
@@ -43,31 +42,6 @@ scaled-zero m u h =
 pub eq-zero : (s : Bool) (m : ℕ) (e : ℤ) → eq (fin s m e) positiveZero ≡ eqb m 0
 unfolding eq
 eq-zero s m e = rw (zero-mul (down e)) (level-zero s (m * up e * 1) ∙ scaled-zero m (up e) (up-pos e))
-
--- ---- `x - x == 0.0`
-
-value-zero : (x : Float) (s : Bool) (den : ℕ) → 0 < den → HasValue x s 0 den → eq x positiveZero ≡ true
-value-zero nan s den h v = absurd v
-value-zero (inf t) s den h v = absurd v
-value-zero (fin t m e) s den h v =
-    let k = v .1 in
-    split (eqb m 0)
-    (λ p. cc (eq-zero t m e))
-    (λ p. let z : 0 < m = omega tests in absurd (omega (arith, zero-mul (down e), mul-pos (mul-pos z (up-pos e)) h)))
-
-round-zero : (f : Format) (s : Bool) (den : ℕ) → 0 < den → eq (round f s 0 den) positiveZero ≡ true
-round-zero f s den h =
-    value-zero (round f s 0 den) s den h
-    (round-exact f s 0 den 0 0 h (pow-pos (prec f)) (pow-pos (low f + suc (emax f))) (zero-mul (2 ^ low f) ∙ sym (zero-mul den)))
-
--- a value less itself is a zero exactly where it is finite
-pub minus-itself : (f : Format) (x : Float) → eq (sub f x x) positiveZero ≡ finite x
-unfolding eq sub add neg sum
-minus-itself f nan = refl
-minus-itself f (inf false) = refl
-minus-itself f (inf true) = refl
-minus-itself f (fin false m e) = let a = m * up e * down e in rw (le-ltb a a (le-refl a), sub-self a) (round-zero f false (down e * down e) (mul-pos (down-pos e) (down-pos e)))
-minus-itself f (fin true m e) = let a = m * up e * down e in rw (le-ltb a a (le-refl a), sub-self a) (round-zero f false (down e * down e) (mul-pos (down-pos e) (down-pos e)))
 
 -- ---- `plusZero`
 

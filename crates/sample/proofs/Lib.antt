@@ -1,3 +1,4 @@
 pub mod Floats
+pub mod Fields
 pub mod Bytes
 pub mod Rows

@@ -25,11 +25,13 @@ pub fn passes(kind: Kind, new: f32, old: f32) -> bool
     }
 }
 
-// A float is finite exactly when it less itself is a zero: an infinity or a NaN less itself is a NaN.
+// IEEE 754's binary32 is a sign bit, eight exponent bits and 23 fraction bits. A float is finite exactly when its exponent bits are not all ones.
 pub fn is_finite(x: f32) -> bool
     ensures { λ r. ⌜ r ≡ finite x ⌝ }
 {
-    x - x == 0.0
+    let bits = to_pattern(x);
+    let exponent = (bits >> 23) & 0xff;
+    exponent != 0xff
 }
 
 // A negative zero is read as positive zero, and every other value as itself.

@@ -1,0 +1,57 @@
+-- The exponent's field of a bit pattern tells whether its float is finite.
+-- By which idea: `ofBits` reads a pattern by its fields, and gives an infinity or a NaN exactly where the exponent's is all ones.
+use mathlib.Core.Path.{_≡_, refl, sym, ap, _∙_}
+use mathlib.Core.Bool.{Bool, true, false, not, cond}
+use Prim.Native.Nat.{ℕ, zero, suc, _+_, _*_, _/_, _%_, _^_}
+use native.Mathlib.Omega.{arith}
+use borrow.Author.Tests.{ne-eqb}
+use lib.Dec.{T, eqb}
+use lib.Bits.{bitAnd, and-mask}
+use lib.Pow.{field}
+use lib.Ieee.{Float, nan, inf, Format, binary32, prec, emax, low, odd, hid, ones, top, ofFields, ofBits, toBits, fits}
+use lib.Ieee.Bits.{ofBits-toBits}
+use lib.Ieee.Scale.{finite}
+
+-- ---- any format
+
+number-finite : (d : ℕ) (s : Bool) (q k l : ℕ) → finite (odd d s q k l) ≡ true
+unfolding odd
+number-finite d s zero k l = refl
+number-finite d s (suc q) k l = refl
+
+-- all ones: an infinity or a NaN; not all ones: a number
+by-ones : (allOnes noFraction s : Bool) (x : Float) → finite x ≡ true → finite (cond allOnes (cond noFraction (inf s) nan) x) ≡ not allOnes
+by-ones true true s x h = refl
+by-ones true false s x h = refl
+by-ones false noFraction s x h = h
+
+ones-above : (e : ℕ) → 0 ≡ 2 * e + 1 → ⊥
+ones-above e h = omega arith
+
+fields-finite : (f : Format) (s : Bool) (exponent fraction : ℕ) → finite (ofFields f s exponent fraction) ≡ not (eqb exponent (ones f))
+unfolding ofFields
+fields-finite f s zero t = number-finite (prec f) s t 0 (low f) ∙ sym (ap not (ne-eqb 0 (ones f) (ones-above (emax f))))
+fields-finite f s (suc k) t =
+    let q = hid f + t in
+    by-ones (eqb (suc k) (ones f)) (eqb t 0) s (odd (prec f) s q k (low f)) (number-finite (prec f) s q k (low f))
+
+pub pattern-finite : (f : Format) (n : ℕ) → finite (ofBits f n) ≡ not (eqb (n % top f / hid f) (ones f))
+unfolding ofBits
+pattern-finite f n = fields-finite f _ (n % top f / hid f) (n % hid f)
+
+-- ---- binary32
+
+-- the eight exponent bits of a pattern, as `(n >> 23) & 0xff` takes them
+abbrev pub exponentBits : ℕ → ℕ
+exponentBits n = bitAnd (n / 8388608) 255
+
+exponent-field : (n : ℕ) → exponentBits n ≡ n % top binary32 / hid binary32
+exponent-field n = and-mask (n / 2 ^ 23) 8 ∙ sym (field n 8 23)
+
+-- The reviewer's sentence, of every bit pattern: its float is finite exactly when its eight exponent bits are not all ones.
+pub finite-pattern : (n : ℕ) → finite (ofBits binary32 n) ≡ not (eqb (exponentBits n) 255)
+finite-pattern n = pattern-finite binary32 n ∙ ap (λ (k : ℕ). not (eqb k 255)) (sym (exponent-field n))
+
+-- The same of every float, by the pattern that is written for it.
+pub bits-finite : (x : Float) → T (fits binary32 x) → not (eqb (exponentBits (toBits binary32 x)) 255) ≡ finite x
+bits-finite x p = sym (finite-pattern (toBits binary32 x)) ∙ ap finite (ofBits-toBits binary32 x p)
