@@ -4,8 +4,11 @@
     .ci/run 2>&1 | tee log; python3 tools/gate.py log
 """
 import collections
+import pathlib
 import re
 import sys
+
+CRATES = pathlib.Path(__file__).resolve().parent.parent / 'crates.txt'
 
 
 def main(path):
@@ -14,7 +17,7 @@ def main(path):
     edits = collections.defaultdict(list)
     for name, seconds in re.findall(r'^rt: must-fail (\w+)/.*; (\d+) s\)$', said, re.M):
         edits[name].append(int(seconds))
-    order = [line.split(':')[0] for line in open('crates.txt', encoding='utf-8') if re.match(r'\w+:', line)]
+    order = [line.split(':')[0] for line in CRATES.read_text(encoding='utf-8').splitlines() if re.match(r'\w+:', line)]
     if missing := [name for name in order if name not in proofs]:
         sys.exit('not proved in this run: ' + ', '.join(missing))
     print('| crate | its proof | edits | all its edits |\n|---|---:|---:|---:|')
