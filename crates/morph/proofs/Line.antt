@@ -155,7 +155,7 @@ module _ {A : Type 0} (O : Order A) where
 
   -- ---- the best
 
-  le-refl : (a : A) → O .le a a ≡ true
+  pub le-refl : (a : A) → O .le a a ≡ true
   le-refl a = split (O .le a a) (λ p. p) (λ p. O .total a a p)
 
   le-greater : (a b c : A) → O .le a (greater O b c) ≡ (O .le a b || O .le a c)

@@ -142,6 +142,12 @@ module _ {A : Type 0} where
   plan-wide [] W p e = e
   plan-wide (S ∷ Ss) W p e = plan-wide Ss W (applyStage S p) (stage-wide S W p e)
 
+  -- what holds of each pixel of a picture holds of each pixel that a plan makes of it
+  pub plan-each : (Ss : List (Stage A)) (W : ℕ) (p : Picture A) → Wide W p → (P : A → Type 0) → Each (Each P) p → Each (Each P) (applyPlan Ss p)
+  unfolding applyPlan
+  plan-each [] W p e P h = h
+  plan-each (S ∷ Ss) W p e P h = plan-each Ss W (applyStage S p) (stage-wide S W p e) P (stage-each S W p e P h)
+
   pub plan-append : (Ss Ts : List (Stage A)) (p : Picture A) → applyPlan (Ss ++ Ts) p ≡ applyPlan Ts (applyPlan Ss p)
   unfolding applyPlan
   plan-append [] Ts p = refl

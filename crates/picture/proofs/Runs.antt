@@ -17,7 +17,7 @@ use Rattle.morph.specs.Line.{outputAt}
 use Rattle.morph.specs.Picture.{Picture, Wide, Stage as Filter, applyPlan, lookAhead, rowAt}
 use Rattle.morph.specs.Plan.{planCost}
 use Rattle.morph.proofs.Lists.{split, neither, length-tabulate, tabulate-ext, tabulate-snoc, each-append, each-getD, each-take, each-map, each-weaken}
-use Rattle.morph.proofs.Picture.{plan-length}
+use Rattle.morph.proofs.Picture.{plan-length, plan-each}
 use Rattle.morph.proofs.Plan.{plan-costs-bound}
 use Rattle.sample.specs.Samples.{Samples, rates}
 use Rattle.sample.specs.Rate.{accepted}
@@ -42,7 +42,7 @@ use Rattle.picture_state.proofs.ReadingOut.{queue-run}
 use Rattle.picture_state.proofs.Step.{judged-fit}
 use Rattle.picture.specs.Runs.{rowComparisons, cameWith, rowsOf, sumOf, stateAt, PictureRun, started, started-numbers, offered, drained, row-refused, drain-refused, rowSaidOver, queueOver, PictureRan}
 use Rattle.picture.proofs.Reading.{shows-queue}
-use Rattle.picture.proofs.Unique.{row-offered, plan-each}
+use Rattle.picture.proofs.Unique.{row-offered}
 
 -- ---- lists
 
@@ -427,4 +427,4 @@ module _ (first : State) where
           let p = filled (S .rows) read in
           let Ss = stagesOf (rates .order) (S .plan) in
           rw (run-told rates 1 first S M read said came r p w b .filtered)
-          (each-take _ (S .step - planAhead (S .plan)) (applyPlan Ss p) (plan-each Ss (S .width) p (λ a. accepted a ≡ true) (w .wide) (filled-each _ (S .rows) read l (read-accepted r))))
+          (each-take _ (S .step - planAhead (S .plan)) (applyPlan Ss p) (plan-each Ss (S .width) p (w .wide) (λ a. accepted a ≡ true) (filled-each _ (S .rows) read l (read-accepted r))))

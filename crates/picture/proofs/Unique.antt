@@ -10,9 +10,8 @@ use lib.Dec.{leb}
 use lib.ListN.{length, getD, set, length-map, length-set}
 use lib.Seq.{take-set-le, getD-set-same}
 use Rattle.morph.specs.Lists.{Each, all}
-use Rattle.morph.specs.Picture.{Picture, Wide, Stage as Filter, applyStage, applyPlan}
+use Rattle.morph.specs.Picture.{Picture, applyStage}
 use Rattle.morph.proofs.Lists.{split, each-set, all-hold, each-map, each-weaken}
-use Rattle.morph.proofs.Picture.{stage-wide, stage-each}
 use Rattle.sample.specs.Samples.{Samples}
 use Rattle.plan_record.specs.declared.Stage.{Stage}
 use Rattle.morph.specs.Numbers.{given}
@@ -182,9 +181,3 @@ module _ {A : Type 0} (K : Samples A) (S : State) where
       drain-same kind M M (λ i x a b. refl) M₁ M₂ out out₁ out₂ a₁ a₂ S₁ S₂ h k n n p whole holds,
       h .accepted n .past ∙ sym (k .accepted n .past),
     )
-
--- what holds of each pixel of a picture holds of each pixel that a plan makes of it
-pub plan-each : {A : Type 0} (Ss : List (Filter A)) (W : ℕ) (p : Picture A) (P : A → Type 0) → Wide W p → Each (Each P) p → Each (Each P) (applyPlan Ss p)
-unfolding applyPlan
-plan-each [] W p P w h = h
-plan-each (S ∷ Ss) W p P w h = plan-each Ss W (applyStage S p) P (stage-wide S W p w) (stage-each S W p w P h)

@@ -1,0 +1,7 @@
+pub mod Told
+pub mod Stage
+pub mod Adjoint
+pub mod Same
+pub mod Alternating
+pub mod Twice
+pub mod Wrong
