@@ -1,4 +1,5 @@
-"""Cases with their answers: a name, a job, and the answer to it. Document 01's, as far as the program can show them, and float patterns."""
+"""Cases with their answers: a name, a job, and the answer to it. Document 01's, as far as the program can show them, its line P filtered
+twice, and float patterns."""
 import struct
 
 from definition import DILATION, EROSION, FLOAT, GREY
@@ -18,10 +19,15 @@ def full_run(rows):
     return b'\2' + head(rows) + b''.join(b'\1' + bytes(row) for row in rows) + b'\0\0'
 
 
-def cases():
-    def line(name, kinds, left, right, row, out):
-        return name, job([(kind, left, right, 0, 0) for kind in kinds], [row]), full_run([out])
+P = [3, 1, 4, 1, 5, 9, 2, 6]
+OPENING, CLOSING = [EROSION, DILATION], [DILATION, EROSION]
 
+
+def line(name, kinds, left, right, row, out):
+    return name, job([(kind, left, right, 0, 0) for kind in kinds], [row]), full_run([out])
+
+
+def cases():
     def square(name, kinds, value):
         return name, job([(kind, 1, 1, 1, 1) for kind in kinds], [bytes(3), b'\0\11\0', bytes(3)]), full_run([[value] * 3] * 3)
 
@@ -30,21 +36,19 @@ def cases():
         row = bytes(width)
         return name, job(plan, [row]), bytes([0, number]) if number else full_run([row])
 
-    p = [3, 1, 4, 1, 5, 9, 2, 6]
-    opening, closing = [EROSION, DILATION], [DILATION, EROSION]
     high = [(EROSION, 0, 0, 31, 31)] * 3
     yield 'whole case', bytes.fromhex('01010100000000030001 00050207'), bytes.fromhex('020003000100010507070000')
-    yield line('1', [EROSION], 1, 2, p, [1, 1, 1, 1, 1, 2, 2, 2])
-    yield line('2', [DILATION], 1, 2, p, [3, 4, 4, 5, 9, 9, 9, 9])
-    yield line('3', opening, 1, 2, p, [1, 1, 1, 1, 2, 2, 2, 2])
-    yield line('4', closing, 1, 2, p, [3, 3, 4, 4, 5, 9, 9, 9])
+    yield line('1', [EROSION], 1, 2, P, [1, 1, 1, 1, 1, 2, 2, 2])
+    yield line('2', [DILATION], 1, 2, P, [3, 4, 4, 5, 9, 9, 9, 9])
+    yield line('3', OPENING, 1, 2, P, [1, 1, 1, 1, 2, 2, 2, 2])
+    yield line('4', CLOSING, 1, 2, P, [3, 3, 4, 4, 5, 9, 9, 9])
     yield line('7', [DILATION], 0, 1, [4, 3, 2, 1], [4, 4, 3, 2])
     yield line('8', [DILATION], 1, 1, [7, 7, 7], [7, 7, 7])
     yield '9', job([(DILATION, 31, 31, 31, 31)], [b'\5']), full_run([[5]])
     yield square('10 dilated', [DILATION], 9)
     yield square('10 eroded', [EROSION], 0)
-    yield square('10 opened', opening, 0)
-    yield square('10 closed', closing, 9)
+    yield square('10 opened', OPENING, 0)
+    yield square('10 closed', CLOSING, 9)
     for place in range(1, 5):
         for extent, number in (31, 0), (32, 3):
             stage = [EROSION, 0, 0, 0, 0]
@@ -57,6 +61,17 @@ def cases():
     yield zeros('11 4,096 cells', high + [(EROSION, 0, 0, 31, 31), (EROSION, 0, 0, 1, 1), (EROSION, 0, 0, 0, 0)], 16, 0)
     yield zeros('11 4,097 cells', high + [(EROSION, 0, 0, 31, 20)], 17, 15)
     yield 'all rows that a job can have', job([(EROSION, 1, 1, 1, 1)], [b'\0'] * 65535), full_run([b'\0'] * 65535)
+
+
+def filtered_twice():
+    """P opened and closed twice, dilated twice and at once; and opened by a dilation that is not reflected, which gives 2 at the fourth
+    pixel, above the input."""
+    yield line('3, twice', OPENING * 2, 1, 2, P, [1, 1, 1, 1, 2, 2, 2, 2])
+    yield line('4, twice', CLOSING * 2, 1, 2, P, [3, 3, 4, 4, 5, 9, 9, 9])
+    out = full_run([[4, 5, 9, 9, 9, 9, 9, 6]])
+    yield 'two dilations', job([(DILATION, 1, 0, 0, 0), (DILATION, 2, 1, 0, 0)], [P]), out
+    yield 'two dilations at once', job([(DILATION, 3, 1, 0, 0)], [P]), out
+    yield 'not reflected', job([(EROSION, 1, 2, 0, 0), (DILATION, 2, 1, 0, 0)], [P]), full_run([[1, 1, 1, 2, 2, 2, 2, 2]])
 
 
 # Bit patterns of floats, what they are, and whether they are finite: by IEEE 754's table of binary32.
@@ -86,3 +101,7 @@ def patterns():
             row, out = (struct.pack('<%dI' % width, *before, pixel, *after) for pixel in (pattern, 0 if pattern == 0x80000000 else pattern))
             answered = b'\1' + out + b'\0\0' if is_finite else b'\0\10'
             yield 'pattern %08x, %s, in column %d' % (pattern, name, column), bytes([1, DILATION, 0, 0, 0, 0]) + written + row, b'\2' + written + answered
+
+
+def tables():
+    return [*cases(), *filtered_twice(), *patterns()]

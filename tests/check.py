@@ -1,13 +1,15 @@
 #!/usr/bin/env python3
-"""Holds the program to definition.py: every byte that it writes, on the cases of document 01, on float patterns and on random jobs.
+"""Holds the program to definition.py: every byte that it writes, on the cases of document 01, on its line P filtered twice, on float
+patterns and on random jobs.
 
     python3 tests/check.py [COUNT] [--seed N] [--program PATH]
     python3 tests/check.py --self
 
 COUNT random jobs, small, tall and wide, whole and damaged, the same ones for the same seed; before them three tall ones that
-are fed in pieces. A difference is printed with its job in hexadecimal. --self needs no program: it holds definition.py to the
-answers that document 01 prints and to those of the patterns' table, and the random jobs to giving every number that the program
-can give, and late in tall jobs and in wide ones every number that a row can give.
+are fed in pieces; after them COUNT / 3 pairs of jobs that have the same answer, where a picture is filtered once and twice, or
+by two stages and by one. A difference is printed with its job in hexadecimal. --self needs no program: it holds definition.py to
+the tables' answers, those that document 01 prints among them, and to the laws of filtering twice on random jobs; and the random
+jobs to giving every number that the program can give, and late in tall jobs and in wide ones every number that a row can give.
 """
 import argparse
 import collections
@@ -19,9 +21,10 @@ import struct
 import subprocess
 import sys
 
-from cases import cases, patterns
+from cases import tables
 from definition import GREY, answer
 from jobs import narrow_jobs, random_jobs
+from twice import in_order, same_answers, values
 
 TOP = pathlib.Path(__file__).resolve().parent.parent
 
@@ -76,13 +79,17 @@ def differs(name, given, expected, got, complaint=''):
 
 
 def all_jobs(rng, count):
-    """Each job: its name, its bytes, its answer where a table has it, and whether it is fed in pieces."""
-    for name, given, expected in *cases(), *patterns():
+    """Each job: its name, its bytes, its answer where a table or another job has it, and whether it is fed in pieces."""
+    for name, given, expected in tables():
         yield name, given, expected, False
     for at, given in enumerate(narrow_jobs(rng)):
         yield 'narrow %d' % at, given, None, True
     for at, given in enumerate(random_jobs(rng, count)):
         yield str(at), given, None, at % 20 == 19 and len(given) < 2000
+    for name, given, other in same_answers(rng, count // 3):
+        expected = answer(given)
+        yield name, given, expected, False
+        yield name + ', the other', other(expected), expected, False
 
 
 def check_program(program, count, rng):
@@ -116,7 +123,7 @@ EVERY_NUMBER = {'small': (0, 1, 2, 3, 4, 5, 8, 13, 14, 15), 'tall': (0, 8, 13, 1
 
 def check_definition(rng):
     passed = failed = 0
-    for name, given, expected in *cases(), *patterns():
+    for name, given, expected in tables():
         wrong = differs(name, given, expected, answer(given))
         failed, passed = failed + wrong, passed + 1 - wrong
     answers = [answer(given) for given in random_jobs(rng, 1000)]
@@ -129,6 +136,21 @@ def check_definition(rng):
     return passed, failed
 
 
+def check_laws(rng, count):
+    """definition.py by the laws of filtering twice: the same answer, and nowhere above."""
+    passed = failed = 0
+    for name, given, other in same_answers(rng, count):
+        expected = answer(given)
+        wrong = differs(name, other(expected), expected, answer(other(expected)), 'refused' if expected[-1] else '')
+        failed, passed = failed + wrong, passed + 1 - wrong
+    for name, given, higher in in_order(rng, count):
+        wrong = any(low > high for low, high in zip(values(answer(given)), values(answer(higher)), strict=True))
+        if wrong:
+            print('NOT IN ORDER %s\n  lower  %s\n  higher %s' % (name, given.hex(), higher.hex()))
+        failed, passed = failed + wrong, passed + 1 - wrong
+    return passed, failed
+
+
 def main():
     words = argparse.ArgumentParser()
     words.add_argument('count', nargs='?', type=int, default=5000)
@@ -137,7 +159,8 @@ def main():
     words.add_argument('--program', default=str(TOP / 'kelafshir'))
     given = words.parse_args()
     rng = random.Random(given.seed)
-    passed, failed = check_definition(rng) if given.itself else check_program(given.program, given.count, rng)
+    parts = (check_definition(rng), check_laws(rng, 300)) if given.itself else (check_program(given.program, given.count, rng),)
+    passed, failed = map(sum, zip(*parts))
     print('%d passed, %d failed' % (passed, failed))
     return 1 if failed else 0
 

@@ -24,13 +24,17 @@ def cells_of_column(stages):
     return sum(stage[3] + stage[4] + 1 for stage in stages)
 
 
-def small(rng):
+def small_size(rng, stages):
     """Up to 70 rows, of any width that the stages leave cells for."""
-    stages = [any_stage(rng) for _ in range(stage_count(rng))]
     cells = cells_of_column(stages)
     widest = 4096 // cells
     width = min(widest, rng.choice((1, 2, 3, rng.randint(1, 20), rng.randint(1, 400), widest)))
-    return stages, width, min(max(1, 200000 // (cells * width)), rng.choice((1, 2, rng.randint(1, 10), rng.randint(1, 70))))
+    return width, min(max(1, 200000 // (cells * width)), rng.choice((1, 2, rng.randint(1, 10), rng.randint(1, 70))))
+
+
+def small(rng):
+    stages = [any_stage(rng) for _ in range(stage_count(rng))]
+    return stages, *small_size(rng, stages)
 
 
 def tall(rng):

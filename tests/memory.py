@@ -1,5 +1,6 @@
 #!/usr/bin/env python3
-"""Holds a job in memory to definition.py: every byte of the output, on the cases of document 01, on float patterns and on random jobs.
+"""Holds a job in memory to definition.py: every byte of the output, on the cases of document 01, on its line P filtered twice, on float
+patterns and on random jobs.
 
     python3 tests/memory.py COUNT SEED COMMAND..
 
@@ -13,7 +14,7 @@ import struct
 import subprocess
 import sys
 
-from cases import cases, patterns
+from cases import tables
 from definition import GREY, answer
 from jobs import random_jobs
 
@@ -54,9 +55,9 @@ def differences(command, job, expected, rng):
 
 def main(count, seed, words):
     rng = random.Random(seed)
-    tables = [*cases(), *patterns()]
-    jobs = [given for _, given, _ in tables] + list(random_jobs(rng, count))
-    printed = [expected for _, _, expected in tables]
+    known = tables()
+    jobs = [given for _, given, _ in known] + list(random_jobs(rng, count))
+    printed = [expected for _, _, expected in known]
     passed = failed = 0
     with multiprocessing.Pool() as pool, subprocess.Popen(words, stdin=subprocess.PIPE, stdout=subprocess.PIPE) as command:
         defined = itertools.chain(printed, pool.imap(answer, jobs[len(printed):], 50))
