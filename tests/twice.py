@@ -1,7 +1,7 @@
 """Random jobs that the laws of filtering twice speak of (document 02, 13/13): pairs that have the same answer, and pairs of which one's
 answer is nowhere above the other's.
 
-Every picture is whole. Of a job that is refused in a row the longer plan answers fewer rows, since it looks further ahead.
+Every picture is whole. Of a job that is refused in a row a plan with a filter doubled answers fewer rows, since it looks further ahead.
 """
 import struct
 

@@ -1,4 +1,4 @@
-pub mod Told
+pub mod Alike
 pub mod Stage
 pub mod Adjoint
 pub mod Same

@@ -21,7 +21,7 @@ use Rattle.laws.specs.Laws.{Sized, Told, Taken, Twice}
 use Rattle.laws.proofs.Adjoint.{turned, opened-below, closed-above, stages-monotone}
 use Rattle.laws.proofs.Same.{Good, told-turned, opening-twice, dilation-twice}
 use Rattle.laws.proofs.Alternating.{opening-closing-twice, alternating-twice}
-use Rattle.laws.proofs.Told.{grey-told, rate-told}
+use Rattle.laws.proofs.Alike.{grey-told, rate-told}
 
 pub twice : {A : Type 0} (O : Order A) (W H : ℕ) (P : A → Type 0) → Told O P → (p : Picture A) → Sized W H p → Each (Each P) p → Twice O W H p
 twice O W H P told p z u =

@@ -1,4 +1,4 @@
--- The order tells bytes apart, and floats as they are read.
+-- No two bytes are alike in the order, and no two floats as they are read: the order tells them apart.
 -- By which idea: floats that are each at most the other are the same number. The format writes a number other than 0 in one way, as an odd number times a power of two, and of the two zeros only the positive one is read.
 use mathlib.Core.Path.{_≡_, refl, sym, ap, _∙_}
 use mathlib.Core.Logic.{_⊎_, inl, inr, ⊎-elim}
