@@ -1,7 +1,8 @@
-/* The one-row filter for the scanner bench's firmware, and a whole job in memory, for C99 and C++.
+/* The one-row filter for the scanner bench's firmware, a whole job in memory, and plans applied to whole pictures, for C99
+ * and C++.
  *
- * `rt staticlib firmware` proves both and writes target/staticlib/libfirmware.a for x86-64 Linux; link that. Neither keeps
- * anything between calls or takes memory but of the stack, the filter a little and a job about 90 KB, so calls may run
+ * `rt staticlib firmware` proves them all and writes target/staticlib/libfirmware.a for x86-64 Linux; link that. None keeps
+ * anything between calls or takes memory but of the stack, a job about 90 KB and the others a little, so calls may run
  * side by side. Of the C library they may need memcpy and memset.
  */
 #ifndef KELAFSHIR_H
@@ -20,14 +21,18 @@ enum kelafshir_kind {
     KELAFSHIR_DILATION = 1
 };
 
-/* The largest extent, and the most pixels of a row. */
+/* The largest extent; the most pixels of a row that is filtered by itself; and the most stages, columns and rows of a whole
+ * picture. */
 enum kelafshir_limit {
     KELAFSHIR_LARGEST_EXTENT = 31,
-    KELAFSHIR_LONGEST_ROW = 65535
+    KELAFSHIR_LONGEST_ROW = 65535,
+    KELAFSHIR_MOST_STAGES = 16,
+    KELAFSHIR_WIDEST = 4096,
+    KELAFSHIR_MOST_ROWS = 65535
 };
 
 /* The numbers that a call or a job can be refused with. The one-row filter gives 0, 2, 3, 4 and 7 only; a job in memory 0 to
- * 6, 8, 13, 14 and 15. */
+ * 6, 8, 13, 14 and 15; a call on a whole picture 0 to 4, 6, 7 and, of floats, 8. */
 enum kelafshir_number {
     KELAFSHIR_DONE = 0,
     KELAFSHIR_STAGE_COUNT = 1,      /* the stage count is 0 or over 16 */
@@ -35,8 +40,8 @@ enum kelafshir_number {
     KELAFSHIR_EXTENT = 3,           /* an extent is over 31 */
     KELAFSHIR_SIZE = 4,             /* a width, a row count or a line's length is 0 or too large */
     KELAFSHIR_SAMPLE_KIND = 5,      /* the sample kind is not grey or float, or not the state's */
-    KELAFSHIR_MEMORY = 6,           /* too few queue cells, column records or bytes of output are lent */
-    KELAFSHIR_ROW_LENGTH = 7,       /* a row is not as long as the width, or two rows differ in length */
+    KELAFSHIR_MEMORY = 6,           /* too few queue cells, column records or bytes of output are lent, or too short a row to work in */
+    KELAFSHIR_ROW_LENGTH = 7,       /* a row is not as long as the width, two rows differ in length, or a picture is not its rows together */
     KELAFSHIR_NOT_FINITE = 8,       /* a pixel is not finite */
     KELAFSHIR_ALL_READ = 9,         /* a row or pixel is offered when all have been read */
     KELAFSHIR_NO_DRAIN = 10,        /* a drain is asked before all are read, or after the last output */
@@ -91,6 +96,39 @@ struct kelafshir_job_run {
  *   bytes after     KELAFSHIR_BYTES_AFTER; all rows are written
  */
 struct kelafshir_job_run kelafshir_run_job(const uint8_t *job, size_t job_length, uint8_t *out, size_t out_length);
+
+/* What a call on a whole picture comes to: a number, and for KELAFSHIR_NOT_FINITE the first such pixel; else zeros. */
+struct kelafshir_filtered {
+    uint8_t number;
+    size_t row;
+    size_t column;
+};
+
+/* Applies a plan to a whole picture of grey bytes, in its place: one stage after another, each as the one-row filter does it,
+ * across and down. Pixels off the picture take no part.
+ *
+ * A stage is five bytes, as in a job: kind, left, right, up, down; stages points to stage_count of them. The picture is its
+ * rows one after another, picture_length pixels together. row is room to work in, width pixels at least; what it holds after
+ * a call that is done is not told, and what lies in it past width is as it was. All three belong to the caller and must not
+ * overlap. The stages are only read.
+ *
+ * Answers KELAFSHIR_DONE, or the first of these that is so:
+ *   KELAFSHIR_STAGE_COUNT  stage_count is 0 or over 16
+ *   stage by stage         KELAFSHIR_STAGE_KIND, KELAFSHIR_EXTENT
+ *   KELAFSHIR_SIZE         width is 0 or over 4,096, or rows is 0 or over 65,535
+ *   KELAFSHIR_ROW_LENGTH   picture_length is not width times rows
+ *   KELAFSHIR_MEMORY       row_length is less than width
+ * and then picture and row are as they were.
+ */
+struct kelafshir_filtered kelafshir_filter_picture(const uint8_t *stages, size_t stage_count, size_t width, size_t rows,
+                                                   uint8_t *picture, size_t picture_length, uint8_t *row, size_t row_length);
+
+/* The same of a picture of 32-bit floats. A negative zero is read as a positive one, so none is left. After the others comes
+ *   KELAFSHIR_NOT_FINITE   a pixel is an infinity or no number; the answer names the first, by row and column from 0
+ * and then too picture and row are as they were.
+ */
+struct kelafshir_filtered kelafshir_filter_rates(const uint8_t *stages, size_t stage_count, size_t width, size_t rows,
+                                                 float *picture, size_t picture_length, float *row, size_t row_length);
 
 #ifdef __cplusplus
 }

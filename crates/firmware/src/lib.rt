@@ -1,10 +1,13 @@
-// What the scanner bench's firmware links: plain C-callable functions, the one-row filter on numbers and two rows of grey bytes, and a whole job in memory.
-// From C a row, a job or an output is a pointer and then a length. The two of a call may not overlap; nothing past either is read or written.
+// What the scanner bench's firmware links: plain C-callable functions, the one-row filter on numbers and two rows of grey bytes, a whole job in memory, and plans applied to whole pictures.
+// From C a row, a job, a picture or an output is a pointer and then a length. Those of a call may not overlap; nothing past any is read or written.
 
 ghost use mathlib.Core.Path.{_≡_};
+ghost use Rattle.sample.specs.Samples.{greys, rates};
 ghost use Rattle.job_run.specs.Run.{RunsJob};
+ghost use Rattle.firmware.specs.Picture.{FiltersStages};
 ghost use Rattle.firmware.specs.Row.{filterRowNumber, FiltersRow};
 use job_run::JobRun;
+use whole_judge::Filtered;
 
 // The number of a call, 0 where it is accepted, of rows of these two lengths.
 fn judge(kind: u8, left: u8, right: u8, pixels: usize, places: usize) -> u8
@@ -49,4 +52,44 @@ pub extern "C" fn kelafshir_run_job(job: &[u8], out: &mut [u8]) -> JobRun
     ensures { λ r. ⌜ RunsJob (now (job .entry)) (now (out .entry)) (now (out .exit)) r ⌝ }
 {
     job_run::run(job, out)
+}
+
+// Applies the stages, five bytes each, to the picture of grey bytes in its place, and answers 0; or answers the number of a refusal, and for 8 the pixel, and changes nothing.
+#[no_mangle]
+pub extern "C" fn kelafshir_filter_picture(
+    stages: &[[u8; 5]],
+    width: usize,
+    rows: usize,
+    picture: &mut [u8],
+    row: &mut [u8],
+) -> Filtered
+    ensures { λ r. ⌜ FiltersStages greys (now (stages .entry)) width rows (now (picture .entry)) (now (row .entry)) (now (picture .exit)) (now (row .exit)) r ⌝ }
+{
+    let reading = plan_read::read_stages(stages);
+    let number = reading.number;
+    if number != 0 {
+        return whole_judge::say(number);
+    }
+    let plan = reading.plan;
+    whole_grey::apply(plan, width, rows, picture, row)
+}
+
+// Applies the stages, five bytes each, to the picture of floats in its place, and answers 0; or answers the number of a refusal, and for 8 the pixel, and changes nothing.
+#[no_mangle]
+pub extern "C" fn kelafshir_filter_rates(
+    stages: &[[u8; 5]],
+    width: usize,
+    rows: usize,
+    picture: &mut [f32],
+    row: &mut [f32],
+) -> Filtered
+    ensures { λ r. ⌜ FiltersStages rates (now (stages .entry)) width rows (now (picture .entry)) (now (row .entry)) (now (picture .exit)) (now (row .exit)) r ⌝ }
+{
+    let reading = plan_read::read_stages(stages);
+    let number = reading.number;
+    if number != 0 {
+        return whole_judge::say(number);
+    }
+    let plan = reading.plan;
+    whole_rate::apply(plan, width, rows, picture, row)
 }

@@ -13,7 +13,7 @@ use Rattle.morph.specs.Lists.{all}
 use Rattle.morph.specs.Picture.{Picture, applyStage}
 use Rattle.morph.specs.Numbers.{given}
 use Rattle.morph.proofs.Numbers.{first-one, first-skip, first-found}
-use Rattle.sample.specs.Samples.{Samples, greys, firstBad}
+use Rattle.sample.specs.Samples.{Samples, firstBad}
 use Rattle.plan_record.specs.declared.Stage.{Stage}
 use Rattle.plan_record.specs.declared.Plan.{Plan}
 use Rattle.plan_record.specs.Plan.{used, filterOf, belowOf, cellsOf, total, cellsNeeded, recordsNeeded, planAhead}
@@ -322,12 +322,3 @@ module _ {A : Type 0} (K : Samples A) (kind : ℕ) (S : State) (M : Memory A) wh
 pub advanced-as : {A : Type 0} (K : Samples A) (S : State) (M : Memory A) (work pixels out : List A) (M′ : Memory A) (out′ : List A) (answer : Answer) (S′ : State) → work ≡ pixels
     → Advanced K S M work out M′ out′ answer S′ → Advanced K S M pixels out M′ out′ answer S′
 advanced-as K S M work pixels out M′ out′ answer S′ e h = subst (λ w. Advanced K S M w out M′ out′ answer S′) e h
-
--- every grey byte is accepted, as itself
-pub all-grey : (l : List ℕ) → all (greys .good) l ≡ true
-all-grey [] = refl
-all-grey (a ∷ l) = all-grey l
-
-pub taken-grey : (l : List ℕ) → map (greys .taken) l ≡ l
-taken-grey [] = refl
-taken-grey (a ∷ l) = ap (λ m. a ∷ m) (taken-grey l)

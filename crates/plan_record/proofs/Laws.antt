@@ -8,6 +8,7 @@ use native.Mathlib.Omega.{arith}
 use borrow.Author.Tests.{eq-eqb, ne-eqb}
 use lib.ListN.{length, getD, take, set, replicate, length-append}
 use lib.Seq.{set-append-seam, take-append-seam, take-suc, length-take-le}
+use Rattle.morph.specs.Lists.{tabulate}
 use Rattle.morph.proofs.Lists.{length-tabulate, tabulate-snoc}
 use Rattle.morph.specs.Numbers.{firstOf}
 use Rattle.morph.proofs.Numbers.{first-one, first-skip, first-zero, skip, found}
@@ -15,7 +16,7 @@ use Rattle.plan_record.specs.declared.Stage.{Stage}
 use Rattle.plan_record.specs.declared.Plan.{Plan}
 use Rattle.plan_record.specs.declared.Reading.{Reading}
 use Rattle.plan_record.specs.declared.Need.{Need}
-use Rattle.plan_record.specs.Plan.{unused, planOf, used, total, readingOf, cellsNeeded, recordsNeeded, planAhead, countNumber, recordNumber, noNeeds, needsNumber, needsOf, stageFrom, stagesFrom, stagesNumber, planNumber, planRead, sequenceStages, alternatingStages}
+use Rattle.plan_record.specs.Plan.{unused, planOf, used, total, readingOf, cellsNeeded, recordsNeeded, planAhead, countNumber, recordNumber, noNeeds, needsNumber, needsOf, stageFrom, stageNumber, stagesFrom, stagesNumber, planNumber, planRead, stagesGiven, givenNumber, planGiven, sequenceStages, alternatingStages}
 use Rattle.plan_record.specs.Inner.{added, addedAll}
 use Rattle.plan_record.specs.Numbers.{sizeNumber}
 
@@ -44,12 +45,16 @@ pub added-by : {r p q : Plan} {s t : Stage} → r ≡ added p s → p ≡ q → 
 added-by e f g = cc
 
 module _ {r p : Plan} where
+  -- of stages that f gives, one more
+  pub table-more : {s : Stage} (f : ℕ → Stage) (i : ℕ) → i < 16 → r ≡ added p s → p ≡ planOf (tabulate i f) → s ≡ f i → r ≡ planOf (tabulate (i + 1) f)
+  table-more f i h e q g =
+      let l : length (tabulate i f) ≡ i = length-tabulate i f in
+      let more : tabulate (i + 1) f ≡ tabulate i f ++ (f i ∷ []) = rw (add-one i) (tabulate-snoc i f) in
+      added-by e q g ∙ added-plan (tabulate i f) (f i) (omega arith) ∙ ap planOf (sym more)
+
   pub stages-more : {s : Stage} (i : ℕ) (bytes : List ℕ) → i < 16 → r ≡ added p s → p ≡ planOf (stagesFrom i bytes) → s ≡ stageFrom bytes (i * 5) → r ≡ planOf (stagesFrom (i + 1) bytes)
   unfolding stagesFrom
-  stages-more i bytes h e f g =
-      let l : length (stagesFrom i bytes) ≡ i = length-tabulate i (λ k. stageFrom bytes (k * 5)) in
-      let more : stagesFrom (i + 1) bytes ≡ stagesFrom i bytes ++ (stageFrom bytes (i * 5) ∷ []) = rw (add-one i) (tabulate-snoc i (λ k. stageFrom bytes (k * 5))) in
-      added-by e f g ∙ added-plan (stagesFrom i bytes) (stageFrom bytes (i * 5)) (omega arith) ∙ ap planOf (sym more)
+  stages-more i bytes = table-more (λ k. stageFrom bytes (k * 5)) i
 
   pub used-more : (ss : List Stage) (i : ℕ) (d : Stage) {s : Stage} → i < 16 → i < length ss → r ≡ added p s → p ≡ planOf (take i ss) → s ≡ getD ss i d → r ≡ planOf (take (i + 1) ss)
   used-more ss i d h k e f g =
@@ -117,6 +122,23 @@ module _ (count : ℕ) (bytes : List ℕ) {n q : ℕ} (w : n ≡ count) (e : q �
   read-all z g h f =
       accepted-answer (planOf (stagesFrom count bytes)) (count-accepted count (stagesNumber count bytes) (e ∙ ap countNumber w) z (g ∙ ap (λ (n : ℕ). stagesNumber n bytes) w)) h
       (f ∙ ap (λ (n : ℕ). planOf (stagesFrom n bytes)) w)
+
+-- the same of stages that stand apart
+module _ (stages : List (List ℕ)) {q : ℕ} (e : q ≡ countNumber (length stages)) where
+  abbrev stageNumbers : ℕ
+  stageNumbers = firstOf (tabulate (length stages) (λ i. stageNumber (getD stages i []) 0))
+
+  pub given-count : {r : Reading} → r ≡ record { number = q; plan = planOf [] } → (q ≡ 0 → ⊥) → r ≡ planGiven stages
+  unfolding planGiven givenNumber
+  given-count f h = refused-answer (planOf (stagesGiven stages)) f (count-refused (length stages) stageNumbers e h) h
+
+  pub given-stages : {r : Reading} {p : ℕ} → q ≡ 0 → r ≡ record { number = p; plan = planOf [] } → p ≡ stageNumbers → (p ≡ 0 → ⊥) → r ≡ planGiven stages
+  unfolding planGiven givenNumber
+  given-stages z f g h = refused-answer (planOf (stagesGiven stages)) f (count-accepted (length stages) stageNumbers e z g) h
+
+  pub given-all : {p : ℕ} {plan : Plan} → q ≡ 0 → p ≡ stageNumbers → p ≡ 0 → plan ≡ planOf (stagesGiven stages) → record { number = 0; plan = plan } ≡ planGiven stages
+  unfolding planGiven givenNumber
+  given-all z g h f = accepted-answer (planOf (stagesGiven stages)) (count-accepted (length stages) stageNumbers e z g) h f
 
 -- ---- a product of two bounded numbers
 

@@ -13,11 +13,12 @@ use Rattle.morph.specs.Order.{Order}
 use Rattle.morph.specs.Picture.{Stage as Filter, lookAhead, opening, closing, alternating}
 use Rattle.morph.proofs.Lists.{length-tabulate, getD-tabulate}
 use Rattle.morph.proofs.Numbers.{first-one, first-zero, all-zero, none-refused, given-zero, inside, extents-fit}
-use Rattle.morph.specs.Numbers.{outside, kindNumber, extentNumber}
+use Rattle.morph.specs.Lists.{tabulate}
+use Rattle.morph.specs.Numbers.{firstOf, outside, kindNumber, extentNumber}
 use Rattle.plan_record.specs.declared.Stage.{Stage}
 use Rattle.plan_record.specs.declared.Plan.{Plan}
 use Rattle.plan_record.specs.declared.Reading.{Reading}
-use Rattle.plan_record.specs.Plan.{unused, planOf, used, filterOf, stagesOf, belowOf, total, planAhead, countNumber, orderNumber, recordStageNumber, recordStagesNumber, recordNumber, stageNumber, stageFrom, stagesFrom, stagesNumber, planNumber, readingOf, pairStages, openingStages, closingStages, sequenceStages, alternatingStages}
+use Rattle.plan_record.specs.Plan.{unused, planOf, used, filterOf, stagesOf, belowOf, total, planAhead, countNumber, orderNumber, recordStageNumber, recordStagesNumber, recordNumber, stageNumber, stageFrom, stagesFrom, stagesNumber, planNumber, readingOf, pairStages, openingStages, closingStages, sequenceStages, alternatingStages, stagesGiven, givenNumber}
 use Rattle.plan_record.specs.Inner.{Small}
 use Rattle.plan_record.proofs.Laws.{used-plan, count-accepted, count-zero}
 
@@ -115,9 +116,23 @@ judged-reading count bytes h =
     let s = all-zero count (λ i. stageNumber bytes (i * 5)) (z .1) i m in
     ap recordStageNumber (getD-tabulate count (λ i. stageFrom bytes (i * 5)) i unused m) ∙ extents-zero bytes (i * 5) s)
 
+pub judged-given : (stages : List (List ℕ)) → givenNumber stages ≡ 0 → recordNumber (planOf (stagesGiven stages)) ≡ 0
+unfolding givenNumber stagesGiven
+judged-given stages h =
+    let stage : ℕ → Stage = λ i. stageFrom (getD stages i []) 0 in
+    let number : ℕ → ℕ = λ i. stageNumber (getD stages i []) 0 in
+    let z = count-zero (length stages) (firstOf (tabulate (length stages) number)) h in
+    let n = counted (length stages) (z .0) in
+    let l : length (tabulate (length stages) stage) ≡ length stages = length-tabulate (length stages) stage in
+    judged-plan (tabulate (length stages) stage) (omega arith) (omega arith)
+    (λ i k.
+    let m : i < length stages = omega arith in
+    let s = all-zero (length stages) number (z .1) i m in
+    ap recordStageNumber (getD-tabulate (length stages) stage i unused m) ∙ extents-zero (getD stages i []) 0 s)
+
 -- ---- the named plans, said of their calls' promises
 
-accepted-plan : {r : Reading} (n : ℕ) (plan : Plan) → r ≡ readingOf n plan → r .number ≡ 0 → (r .plan ≡ plan) × (n ≡ 0)
+pub accepted-plan : {r : Reading} (n : ℕ) (plan : Plan) → r ≡ readingOf n plan → r .number ≡ 0 → (r .plan ≡ plan) × (n ≡ 0)
 accepted-plan n plan e z =
     let m : n ≡ 0 = sym (ap (λ r. r .number) e) ∙ z in
     (ap (λ r. r .plan) e ∙ simp (eq-eqb n 0 m), m)

@@ -133,6 +133,18 @@ readingOf number plan = record { number = number; plan = cond (eqb number 0) pla
 unfoldable pub planRead : ℕ → List ℕ → Reading
 planRead count bytes = readingOf (planNumber count bytes) (planOf (stagesFrom count bytes))
 
+-- ---- a plan from stages that stand apart, five numbers each
+
+unfoldable pub stagesGiven : List (List ℕ) → List Stage
+stagesGiven stages = tabulate (length stages) (λ i. stageFrom (getD stages i []) 0)
+
+-- 1, of how many there are; then stage by stage 2, 3
+unfoldable pub givenNumber : List (List ℕ) → ℕ
+givenNumber stages = firstOf (countNumber (length stages) ∷ firstOf (tabulate (length stages) (λ i. stageNumber (getD stages i []) 0)) ∷ [])
+
+unfoldable pub planGiven : List (List ℕ) → Reading
+planGiven stages = readingOf (givenNumber stages) (planOf (stagesGiven stages))
+
 -- ---- named plans
 
 abbrev pub withExtents : Kind → ℕ → ℕ → ℕ → ℕ → Stage

@@ -1,16 +1,20 @@
 -- The exponent's field of a bit pattern tells whether its float is finite.
 -- By which idea: `ofBits` reads a pattern by its fields, and gives an infinity or a NaN exactly where the exponent's is all ones.
 use mathlib.Core.Path.{_≡_, refl, sym, ap, _∙_}
-use mathlib.Core.Bool.{Bool, true, false, not, cond}
+use mathlib.Core.Bool.{Bool, true, false, not, cond, _&&_, false≢true}
 use Prim.Native.Nat.{ℕ, zero, suc, _+_, _*_, _/_, _%_, _^_}
 use native.Mathlib.Omega.{arith}
-use borrow.Author.Tests.{ne-eqb}
-use lib.Dec.{T, eqb}
+use borrow.Author.Tests.{ne-eqb, eqb-true, eqb-false}
+use lib.Dec.{T, eqb, eqb→eq}
+use lib.IntN.{pos}
 use lib.Bits.{bitAnd, and-mask}
 use lib.Pow.{field}
-use lib.Ieee.{Float, nan, inf, Format, binary32, prec, emax, low, odd, hid, ones, top, ofFields, ofBits, toBits, fits}
+use lib.Ieee.{Float, nan, inf, fin, up, down, Format, binary32, prec, emax, low, odd, hid, ones, top, ofFields, ofBits, toBits, fits}
 use lib.Ieee.Bits.{ofBits-toBits}
 use lib.Ieee.Scale.{finite}
+use Rattle.morph.proofs.Lists.{split}
+use Rattle.sample.specs.Rate.{negativeZero, accepted}
+use Rattle.sample.proofs.Floats.{power-one}
 
 -- ---- any format
 
@@ -55,3 +59,27 @@ finite-pattern n = pattern-finite binary32 n ∙ ap (λ (k : ℕ). not (eqb k 25
 -- The same of every float, by the pattern that is written for it.
 pub bits-finite : (x : Float) → T (fits binary32 x) → not (eqb (exponentBits (toBits binary32 x)) 255) ≡ finite x
 bits-finite x p = sym (finite-pattern (toBits binary32 x)) ∙ ap finite (ofBits-toBits binary32 x p)
+
+-- ---- the negative zero
+
+negative-bits : (x : Float) → T (fits binary32 x) → negativeZero x ≡ true → toBits binary32 x ≡ 2147483648
+unfolding fits toBits
+negative-bits nan p h = absurd (false≢true h)
+negative-bits (inf s) p h = absurd (false≢true h)
+negative-bits (fin false m e) p h = absurd (false≢true h)
+negative-bits (fin true zero e) p h = rw (power-one e (eqb→eq (up e * down e) 1 p)) refl
+negative-bits (fin true (suc m) e) p h = absurd (false≢true (sym (ne-eqb (suc m) 0 (λ k. omega arith)) ∙ h))
+
+sign-alone : ofBits binary32 2147483648 ≡ fin true 0 (pos 0)
+unfolding ofBits
+sign-alone = refl
+
+-- its sign bit stands alone, and in no other pattern
+bits-negative : (x : Float) → T (fits binary32 x) → eqb (toBits binary32 x) 2147483648 ≡ negativeZero x
+bits-negative x p =
+    split (eqb (toBits binary32 x) 2147483648)
+    (λ h. h ∙ sym (ap negativeZero (sym (ofBits-toBits binary32 x p) ∙ ap (ofBits binary32) (eqb-true (toBits binary32 x) 2147483648 h) ∙ sign-alone)))
+    (λ h. h ∙ sym (split (negativeZero x) (λ n. absurd (eqb-false (toBits binary32 x) 2147483648 h (negative-bits x p n))) (λ n. n)))
+
+pub bits-accepted : (x : Float) → T (fits binary32 x) → (not (eqb (exponentBits (toBits binary32 x)) 255) && not (eqb (toBits binary32 x) 2147483648)) ≡ accepted x
+bits-accepted x p = rw (bits-finite x p, bits-negative x p) refl

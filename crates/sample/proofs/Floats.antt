@@ -72,7 +72,7 @@ no-power : (x y : ℕ) → x ≡ 2 * y → 0 < y → x ≡ 1 → ⊥
 no-power x y e p h = omega arith
 
 -- 2 ^ e is 1 only at e = 0
-power-one : (e : ℤ) → up e * down e ≡ 1 → e ≡ pos 0
+pub power-one : (e : ℤ) → up e * down e ≡ 1 → e ≡ pos 0
 power-one (pos zero) h = refl
 power-one (pos (suc a)) h = absurd (no-power (2 ^ suc a) (2 ^ a) (pow-succ' 2 a) (pow-pos a) (sym (mul-one (2 ^ suc a)) ∙ h))
 power-one (negsuc a) h = absurd (no-power (2 ^ suc a) (2 ^ a) (pow-succ' 2 a) (pow-pos a) (sym (one-mul (2 ^ suc a)) ∙ h))

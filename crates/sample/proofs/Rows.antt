@@ -7,17 +7,17 @@ use Prim.Native.Nat.{ℕ, zero, suc, _+_, _≤_, _<_}
 use native.Mathlib.Numerals.{add-one}
 use native.Mathlib.Omega.{arith}
 use borrow.Author.Tests.{ltb-false, lt-ltb, le-ltb, not-true, not-false}
-use lib.Dec.{ltb, leb·suc-suc}
+use lib.Dec.{T, ltb, leb·suc-suc}
 use lib.ListN.{length, take, drop, getD, set, length-set, drop-of-length-le}
 use lib.Seq.{take-suc, drop-cons, append-snoc, set-at, getD-at, take-all, length-take-le}
-use lib.Ieee.{Float, nan}
+use lib.Ieee.{Float, nan, binary32, fits}
 use lib.Ieee.Scale.{finite}
 use Rattle.morph.specs.Lists.{all, Each}
 use Rattle.morph.specs.Rate.{plusZero}
 use Rattle.morph.proofs.Lists.{split, both, all-append}
-use Rattle.sample.specs.Rate.{accepted}
-use Rattle.sample.specs.Samples.{Samples, firstBad}
-use Rattle.sample.proofs.Floats.{accepted-plus}
+use Rattle.sample.specs.Rate.{negativeZero, accepted}
+use Rattle.sample.specs.Samples.{Samples, firstBad, greys}
+use Rattle.sample.proofs.Floats.{accepted-plus, plus-accepted}
 
 -- ---- filling: the first i places of a row that was `before` hold what `goal` has there, and the others are as they were
 
@@ -101,6 +101,19 @@ module _ {A : Type 0} (K : Samples A) where
     pub search-end : length row ≤ i → i ≡ firstBad K row
     search-end h = let k = ap (firstBad K) (drop-of-length-le row {i = i} h) in omega arith
 
+-- ---- a row of grey bytes: every byte is accepted, as itself
+
+pub all-grey : (l : List ℕ) → all (greys .good) l ≡ true
+all-grey [] = refl
+all-grey (a ∷ l) = all-grey l
+
+pub good-grey : (l : List ℕ) → length l ≤ firstBad greys l
+good-grey l = omega (arith, none-first greys l (all-grey l))
+
+pub taken-grey : (l : List ℕ) → map (greys .taken) l ≡ l
+taken-grey [] = refl
+taken-grey (a ∷ l) = ap (λ m. a ∷ m) (taken-grey l)
+
 -- ---- a row of floats
 
 -- what a finite row is read as, is accepted
@@ -109,5 +122,14 @@ clean-accepted [] h = tt
 clean-accepted (x ∷ row) h = let b = both (finite x) (all finite row) h in (accepted-plus x (b .0), clean-accepted row (b .1))
 
 -- a flag over the columns passed
-pub all-more : (row : List Float) (i : ℕ) (good here : Bool) → i < length row → good ≡ all finite (take i row) → here ≡ finite (getD row i nan) → (good && here) ≡ all finite (take (i + 1) row)
-all-more row i good here h g e = rw (add-one, take-suc row i nan h, all-append finite (take i row) (getD row i nan ∷ []), and-true, g, e)
+pub all-more : (f : Float → Bool) (row : List Float) (i : ℕ) (good here : Bool) → i < length row → good ≡ all f (take i row) → here ≡ f (getD row i nan) → (good && here) ≡ all f (take (i + 1) row)
+all-more f row i good here h g e = rw (add-one, take-suc row i nan h, all-append f (take i row) (getD row i nan ∷ []), and-true, g, e)
+
+-- a row that is accepted is finite, and is read as it stands
+pub accepted-row : (row : List Float) → Each (λ x. T (fits binary32 x)) row → all accepted row ≡ true → (all finite row ≡ true) × (map plusZero row ≡ row)
+accepted-row [] p h = (refl, refl)
+accepted-row (x ∷ row) (p, ps) h =
+    let (a, b) = both (accepted x) (all accepted row) h in
+    let (f, _) = both (finite x) (not (negativeZero x)) a in
+    let (e, q) = accepted-row row ps b in
+    (rw (f, e) refl, rw (plus-accepted binary32 x p a, q) refl)

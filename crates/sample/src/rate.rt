@@ -7,7 +7,7 @@ ghost use lib.Ieee.{binary32, ofBits, toBits};
 ghost use lib.Ieee.Scale.{finite};
 ghost use Rattle.morph.specs.Lists.{all};
 ghost use Rattle.morph.specs.Rate.{plusZero};
-ghost use Rattle.sample.specs.Rate.{passesOf};
+ghost use Rattle.sample.specs.Rate.{passesOf, accepted};
 ghost use Rattle.sample.specs.Bytes.{floatOf, floatAt, bytesOf};
 ghost use Rattle.sample.specs.Samples.{firstBad, rates};
 use morph::Kind;
@@ -32,6 +32,15 @@ pub fn is_finite(x: f32) -> bool
     let bits = to_pattern(x);
     let exponent = (bits >> 23) & 0xff;
     exponent != 0xff
+}
+
+// Whether a float is read as itself: it is finite, and no negative zero, whose sign bit stands alone.
+fn is_accepted(x: f32) -> bool
+    ensures { λ r. ⌜ r ≡ accepted x ⌝ }
+{
+    let bits = to_pattern(x);
+    let exponent = (bits >> 23) & 0xff;
+    (exponent != 0xff) & (bits != 0x8000_0000)
 }
 
 // A negative zero is read as positive zero, and every other value as itself.
@@ -100,6 +109,19 @@ fn all_finite(row: &[f32]) -> bool
     let mut i = 0;
     while i < row.len() {
         good = good & is_finite(row[i]);
+        i += 1;
+    }
+    good
+}
+
+// Whether a whole row is finite and free of negative zeros, so that it is read as it stands. It stops at no column either.
+pub fn all_accepted(row: &[f32]) -> bool
+    ensures { λ r. ⌜ r ≡ all accepted (now (row .entry)) ⌝ }
+{
+    let mut good = true;
+    let mut i = 0;
+    while i < row.len() {
+        good = good & is_accepted(row[i]);
         i += 1;
     }
     good

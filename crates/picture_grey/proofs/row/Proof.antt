@@ -7,7 +7,8 @@ use lib.Seq.{length-take-le, take-at}
 use borrow.Author.Needs.{needs}
 use Rattle.sample.specs.Samples.{greys}
 use Rattle.memory.specs.Memory.{Memory, memory}
-use Rattle.picture_state.proofs.Step.{Taken, offer-taken, refuses-row, accepts-row, advanced-as, all-grey, taken-grey}
+use Rattle.sample.proofs.Rows.{all-grey, taken-grey}
+use Rattle.picture_state.proofs.Step.{Taken, offer-taken, refuses-row, accepts-row, advanced-as}
 use Rattle.picture_grey.proofs.row.Statement.{statement}
 use Rattle.picture_grey.proofs.row.Tie as tie
 

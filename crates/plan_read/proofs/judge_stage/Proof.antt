@@ -6,8 +6,8 @@ use borrow.Author.Needs.{needs}
 use Rattle.plan_read.proofs.judge_stage.Statement.{statement}
 use Rattle.plan_read.proofs.judge_stage.Tie as tie
 
-element-copy-out-if1 : tie.Need-element-copy-out-if1
-element-copy-out-if1 c = search needs
+shared-slice-read-if1 : tie.Need-shared-slice-read-if1
+shared-slice-read-if1 c = search needs
 
 returns : tie.Need-returns
 returns c = simp (lt-ltb _ _ (c .if1 .taken))
@@ -15,26 +15,26 @@ returns c = simp (lt-ltb _ _ (c .if1 .taken))
 add-judge-extents : tie.Need-add-judge-extents
 add-judge-extents c = search needs
 
-element-copy-out-judge-extents : tie.Need-element-copy-out-judge-extents
-element-copy-out-judge-extents c = search needs
+shared-slice-read-judge-extents : tie.Need-shared-slice-read-judge-extents
+shared-slice-read-judge-extents c = search needs
 
 add-judge-extents-2 : tie.Need-add-judge-extents-2
 add-judge-extents-2 c = search needs
 
-element-copy-out-judge-extents-2 : tie.Need-element-copy-out-judge-extents-2
-element-copy-out-judge-extents-2 c = search needs
+shared-slice-read-judge-extents-2 : tie.Need-shared-slice-read-judge-extents-2
+shared-slice-read-judge-extents-2 c = search needs
 
 add-judge-extents-3 : tie.Need-add-judge-extents-3
 add-judge-extents-3 c = search needs
 
-element-copy-out-judge-extents-3 : tie.Need-element-copy-out-judge-extents-3
-element-copy-out-judge-extents-3 c = search needs
+shared-slice-read-judge-extents-3 : tie.Need-shared-slice-read-judge-extents-3
+shared-slice-read-judge-extents-3 c = search needs
 
 add-judge-extents-4 : tie.Need-add-judge-extents-4
 add-judge-extents-4 c = search needs
 
-element-copy-out-judge-extents-4 : tie.Need-element-copy-out-judge-extents-4
-element-copy-out-judge-extents-4 c = search needs
+shared-slice-read-judge-extents-4 : tie.Need-shared-slice-read-judge-extents-4
+shared-slice-read-judge-extents-4 c = search needs
 
 judge-extents-requires : tie.Need-judge-extents-requires
 judge-extents-requires c κs = search needs
@@ -46,15 +46,15 @@ pub judge-stage-spec : {M : Type 1} → statement M
 judge-stage-spec =
     tie.close
     (tie.spec
-    element-copy-out-if1
+    shared-slice-read-if1
     returns
     add-judge-extents
-    element-copy-out-judge-extents
+    shared-slice-read-judge-extents
     add-judge-extents-2
-    element-copy-out-judge-extents-2
+    shared-slice-read-judge-extents-2
     add-judge-extents-3
-    element-copy-out-judge-extents-3
+    shared-slice-read-judge-extents-3
     add-judge-extents-4
-    element-copy-out-judge-extents-4
+    shared-slice-read-judge-extents-4
     judge-extents-requires
     returns-2)

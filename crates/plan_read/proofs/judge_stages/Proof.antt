@@ -24,7 +24,7 @@ judge-stage-requires c κs = omega arith
 
 returns : tie.Need-returns Inv-loop μ-loop
 unfolding stagesNumber
-returns c = c .before .judge-stage .ensures ∙ judging-found _ _ _ (c .before .before .before .loop .inv .1) (c .before .before .loop-test .taken) (λ z. c .if1 .taken (c .before .judge-stage .ensures ∙ z))
+returns c = c .before .judge-stage .ensures ∙ judging-found _ _ _ (c .before .before .before .before .loop .inv .1) (c .before .before .before .loop-test .taken) (λ z. c .if1 .taken (c .before .judge-stage .ensures ∙ z))
 
 add-i : tie.Need-add-i Inv-loop μ-loop
 add-i c = omega arith
@@ -33,7 +33,7 @@ loop-less : tie.Need-loop-less Inv-loop μ-loop
 loop-less c = omega arith
 
 loop-again : tie.Need-loop-again Inv-loop μ-loop
-loop-again c = (omega arith, judging-next _ _ _ (c .before .before .before .loop .inv .1) (c .before .before .loop-test .taken) (sym (c .before .judge-stage .ensures) ∙ c .if1 .left))
+loop-again c = (omega arith, judging-next _ _ _ (c .before .before .before .before .loop .inv .1) (c .before .before .before .loop-test .taken) (sym (c .before .judge-stage .ensures) ∙ c .if1 .left))
 
 returns-2 : tie.Need-returns-2 Inv-loop μ-loop
 unfolding stagesNumber

@@ -38,7 +38,7 @@ loop-less : tie.Need-loop-less Inv-loop μ-loop
 loop-less c = omega arith
 
 loop-again : tie.Need-loop-again Inv-loop μ-loop
-loop-again c = (omega arith, stages-more (c .before .before .before .loop .i) (now (c .before .before .before .before .before .args .bytes)) (omega arith) (c .add .ensures .0) (c .before .before .before .loop .inv .1) (c .before .stage-from .ensures), omega arith)
+loop-again c = (omega arith, stages-more (c .before .before .before .before .loop .i) (now (c .before .before .before .before .before .before .args .bytes)) (omega arith) (c .add .ensures .0) (c .before .before .before .before .loop .inv .1) (c .before .stage-from .ensures), omega arith)
 
 returns : tie.Need-returns Inv-loop μ-loop
 returns c =

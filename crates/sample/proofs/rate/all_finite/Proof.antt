@@ -35,7 +35,7 @@ loop-less : tie.Need-loop-less Inv-loop μ-loop
 loop-less c = omega arith
 
 loop-again : tie.Need-loop-again Inv-loop μ-loop
-loop-again c = let l = c .before .before .before .loop in (omega arith, all-more _ (l .i) (l .good) (c .is-finite .result) (omega arith) (l .inv .1) (c .is-finite .ensures))
+loop-again c = let l = c .before .before .before .loop in (omega arith, all-more finite _ (l .i) (l .good) (c .is-finite .result) (omega arith) (l .inv .1) (c .is-finite .ensures))
 
 returns : tie.Need-returns Inv-loop μ-loop
 returns c = let l = c .before .loop in l .inv .1 ∙ ap (all finite) (take-all (l .i) _ (omega arith))

@@ -1,0 +1,4 @@
+pub mod Over
+pub mod Levels
+pub mod Sweep
+pub mod Back
