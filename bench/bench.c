@@ -1,10 +1,12 @@
-/* Times one dilation by a square window: (p) the proved code, (a) the same queue method in C, (b) van Herk's in C.
+/* Times one dilation by a square window: (p) the proved code, row by row and on a whole picture in place, (a) the same queue
+ * method in C, (b) van Herk's in C, (w) the same passes over a whole picture in C; and plans of MANY_STAGES stages and of one.
  *
  *     bench FOLDER [RUNS]
  *
  * Writes its pictures to FOLDER, for others.py to read, and results to standard output, a line each with tabs between:
  *     time     sample picture size window method nanoseconds-per-pixel
  *     sum      sample picture size window sum-of-the-answer
+ *     plan     sample picture size window time-of-many-stages-over-one
  *     latency  sample picture width window method median-microseconds worst-microseconds
  *     memory   sample width window method bytes
  * All times are processor time of this one thread, medians over RUNS rounds; in a round each method has its turn.
@@ -20,7 +22,7 @@
 #include <string.h>
 #include <time.h>
 
-enum { MOST_WIDTH = 4096, MOST_ROWS = 2048, MOST_RUNS = 99, LATENCY_ROWS = 504 };
+enum { MOST_WIDTH = 4096, MOST_ROWS = 2048, MOST_RUNS = 99, LATENCY_ROWS = 504, MANY_STAGES = 8 };
 
 static int runs = 5;
 static const char *const samples[] = {"grey", "float"}, *const pictures[] = {"noise", "smooth", "stairs"};
@@ -30,20 +32,22 @@ static const size_t sizes[][2] = {{1024, 1024}, {4096, 2048}}, windows[] = {3, 7
 static struct task {
     int is_float;
     size_t width, rows, extent;
-    void *picture, *out, *values, *forward, *backward;
+    void *picture, *out, *row, *values, *forward, *backward;
     uint16_t *positions;
     uint8_t *starts, *lengths;
 } task;
 
 static size_t sample_size(void) { return task.is_float ? sizeof(float) : 1; }
+static size_t pixels(void) { return task.width * task.rows; }
 static size_t cells(void) { return task.width * (2 * task.extent + 1); }
 static size_t padded(size_t length) { return length + 4 * task.extent + 1; }
 
-/* ---- the methods: each filters the task's picture into its output, and answers the comparisons that it counts */
+/* ---- the methods: each filters the task's picture into its output, or the output in place, which is then a copy of the
+ * picture, and answers the comparisons that it counts */
 
 static size_t by_proved(void)
 {
-    struct slice picture = {task.picture, task.width * task.rows}, out = {task.out, task.width * task.rows};
+    struct slice picture = {task.picture, pixels()}, out = {task.out, pixels()};
     struct slice values = {task.values, cells()}, positions = {task.positions, cells()};
     struct slice starts = {task.starts, task.width}, lengths = {task.lengths, task.width};
     uint8_t extent = (uint8_t)task.extent;
@@ -73,13 +77,47 @@ static size_t by_herk(void)
     return 0;
 }
 
+static size_t whole_by_proved(void)
+{
+    struct slice picture = {task.out, pixels()}, row = {task.row, task.width};
+    uint8_t extent = (uint8_t)task.extent;
+    (task.is_float ? rt_rate_whole : rt_grey_whole)(DILATION, extent, extent, extent, extent, task.width, task.rows, &picture,
+                                                    &row);
+    return 0;
+}
+
+static size_t whole_by_passes(void)
+{
+    size_t extent = task.extent;
+    if (task.is_float)
+        rate_passes_stage(DILATION, extent, extent, extent, extent, task.width, task.rows, task.out, task.row);
+    else
+        grey_passes_stage(DILATION, extent, extent, extent, extent, task.width, task.rows, task.out, task.row);
+    return 0;
+}
+
+/* The proved code comes last, for it may not be linked in yet; what is compared most closely has its turns one after another. */
+enum { METHODS_IN_C = 3, MOST_METHODS = 5 };
 static const struct method {
     const char *name;
     size_t (*filter)(void);
-} methods[] = {{"van Herk in C", by_herk}, {"queue in C", by_queue}, {"proved", by_proved}};
+    int counts, in_place;
+} methods[MOST_METHODS] = {{"van Herk in C", by_herk, 0, 0},
+                           {"queue in C", by_queue, 1, 0},
+                           {"whole in C", whole_by_passes, 0, 1},
+                           {"whole, proved", whole_by_proved, 0, 1},
+                           {"proved", by_proved, 1, 0}};
 
-/* How many of the methods there are: the proved code comes last, and may not be linked in yet. */
-static int method_count(void) { return (task.is_float ? rt_rate_stage : rt_grey_stage) ? 3 : 2; }
+static int is_proved_there(void) { return rt_grey_stage && rt_rate_stage && rt_grey_whole && rt_rate_whole; }
+static int method_count(void) { return is_proved_there() ? MOST_METHODS : METHODS_IN_C; }
+
+/* A plan of equal stages, by the proved code, in place. */
+static void plan_by_proved(size_t stages)
+{
+    struct slice picture = {task.out, pixels()}, row = {task.row, task.width};
+    uint8_t extent = (uint8_t)task.extent;
+    if ((task.is_float ? rt_rate_plan : rt_grey_plan)(stages, extent, task.width, task.rows, &picture, &row) != 0) exit(1);
+}
 
 /* ---- one step */
 
@@ -139,8 +177,7 @@ static void save(const char *folder, const char *name)
     char path[4096];
     snprintf(path, sizeof path, "%s/%s", folder, name);
     FILE *file = fopen(path, "wb");
-    size_t count = task.width * task.rows;
-    if (file == NULL || fwrite(task.picture, sample_size(), count, file) != count || fclose(file) != 0) exit(2);
+    if (file == NULL || fwrite(task.picture, sample_size(), pixels(), file) != pixels() || fclose(file) != 0) exit(2);
 }
 
 /* ---- measuring */
@@ -175,31 +212,68 @@ static unsigned long sum(const uint8_t *bytes, size_t count)
     return b << 16 | a;
 }
 
+/* What the first of the methods answered, and the comparisons of the first that counts them. */
+struct answer {
+    unsigned long sum;
+    size_t comparisons;
+};
+
+/* The others must answer the same, and those that count must count the same. */
+static void compare(const char *name, int m, size_t count, struct answer *first)
+{
+    unsigned long given = sum(task.out, pixels() * sample_size());
+    if (m == 0) first->sum = given;
+    if (methods[m].counts && first->comparisons == 0) first->comparisons = count;
+    if (given == first->sum && (!methods[m].counts || count == first->comparisons)) return;
+    fprintf(stderr, "%s: %s differs at window %zu\n", name, methods[m].name, 2 * task.extent + 1);
+    exit(1);
+}
+
+/* Fills the output outside the time taken: for a method in place with the picture, for the others, once, with what is no answer. */
+static void lay_out(int m, int run)
+{
+    if (methods[m].in_place)
+        memcpy(task.out, task.picture, pixels() * sample_size());
+    else if (run == 0)
+        memset(task.out, 0xEE, pixels() * sample_size());
+}
+
 static void time_methods(const char *name)
 {
-    static double times[3][MOST_RUNS];
-    unsigned long first = 0;
-    size_t comparisons = 0;
+    static double times[MOST_METHODS][MOST_RUNS];
+    struct answer first = {0, 0};
     for (int run = 0; run < runs; run++)
         for (int m = 0; m < method_count(); m++) {
-            size_t bytes = task.width * task.rows * sample_size();
-            if (run == 0) memset(task.out, 0xEE, bytes);
+            lay_out(m, run);
             double start = now();
             size_t count = methods[m].filter();
-            times[m][run] = (now() - start) / (double)(task.width * task.rows);
-            if (run != 0) continue;
-            unsigned long answer = sum(task.out, bytes);
-            if (m == 0) first = answer;
-            if (m == 1) comparisons = count;
-            if (answer == first && (m == 0 || count == comparisons)) continue;
-            fprintf(stderr, "%s: %s differs at window %zu\n", name, methods[m].name, 2 * task.extent + 1);
-            exit(1);
+            times[m][run] = (now() - start) / (double)pixels();
+            if (run == 0) compare(name, m, count, &first);
         }
-    printf("sum\t%s\t%zu\t%lu\n", name, 2 * task.extent + 1, first);
-    printf("count\t%s\t%zu\t%.2f\n", name, 2 * task.extent + 1, (double)comparisons / (double)(task.width * task.rows));
+    printf("sum\t%s\t%zu\t%lu\n", name, 2 * task.extent + 1, first.sum);
+    printf("count\t%s\t%zu\t%.2f\n", name, 2 * task.extent + 1, (double)first.comparisons / (double)pixels());
     for (int m = method_count(); m-- > 0;)
-        printf("time\t%s\t%zu\t%s\t%.2f\n", name, 2 * task.extent + 1, methods[m].name, median(times[m], runs));
+        printf("time\t%s\t%zu\t%s\t%.3f\n", name, 2 * task.extent + 1, methods[m].name, median(times[m], runs));
     fflush(stdout);
+}
+
+static double time_plan(size_t stages)
+{
+    memcpy(task.out, task.picture, pixels() * sample_size());
+    double start = now();
+    plan_by_proved(stages);
+    return now() - start;
+}
+
+/* Many stages over one, of the same window on the same picture. */
+static void time_plans(const char *name)
+{
+    static double one[MOST_RUNS], many[MOST_RUNS];
+    for (int run = 0; run < runs; run++) {
+        one[run] = time_plan(1);
+        many[run] = time_plan(MANY_STAGES);
+    }
+    printf("plan\t%s\t%zu\t%.3f\n", name, 2 * task.extent + 1, median(many, runs) / median(one, runs));
 }
 
 /* A row's time is the median over the rounds, so that what lasts is the row's own cost; then median and worst over rows. */
@@ -234,6 +308,7 @@ static void all_times(const char *folder)
             for (size_t i = 0; i < 5; i++) {
                 task.extent = windows[i] / 2;
                 time_methods(name);
+                if (rt_grey_plan && rt_rate_plan) time_plans(name);
             }
         }
 }
@@ -254,8 +329,8 @@ static void all_latencies(void)
     }
 }
 
-/* The working memory beside one row in and one row out; van Herk's needs the whole picture as well. The row queue counts
- * twice, as it is filled and as it is handed to the drain, which the C spares. */
+/* The working memory beside one row in and one row out; van Herk's and the passes need the whole picture as well. The row
+ * queue counts twice, as it is filled and as it is handed to the drain, which the C spares. */
 static void all_memory(void)
 {
     task.width = MOST_WIDTH;
@@ -267,6 +342,7 @@ static void all_memory(void)
         size_t longest = padded(MOST_ROWS) * 64 > padded(task.width) ? padded(MOST_ROWS) * 64 : padded(task.width);
         size_t lines = 2 * longest * sample_size(), whole = row * MOST_ROWS;
         printf("memory\t%s\t%zu\t%zu\tvan Herk in C\t%zu\n", samples[task.is_float], task.width, windows[i], lines + whole);
+        printf("memory\t%s\t%zu\t%zu\twhole, proved or in C\t%zu\n", samples[task.is_float], task.width, windows[i], row + whole);
     }
 }
 
@@ -276,17 +352,18 @@ int main(int count, char **words)
     if (count > 2) runs = atoi(words[2]);
     if (runs < 1 || runs > MOST_RUNS) return 64;
     task.extent = 31;
-    size_t pixels = (size_t)MOST_WIDTH * MOST_ROWS * sizeof(float), most_cells = (size_t)MOST_WIDTH * 63;
-    task.picture = malloc(pixels);
-    task.out = malloc(pixels);
+    size_t most_bytes = (size_t)MOST_WIDTH * MOST_ROWS * sizeof(float), most_cells = (size_t)MOST_WIDTH * 63;
+    task.picture = malloc(most_bytes);
+    task.out = malloc(most_bytes);
+    task.row = malloc(MOST_WIDTH * sizeof(float));
     task.values = calloc(most_cells, sizeof(float));
     task.positions = calloc(most_cells, sizeof(uint16_t));
     task.starts = calloc(MOST_WIDTH, 1);
     task.lengths = calloc(MOST_WIDTH, 1);
     task.forward = malloc(padded(MOST_WIDTH) * 64 * sizeof(float));
     task.backward = malloc(padded(MOST_WIDTH) * 64 * sizeof(float));
-    if (!task.picture || !task.out || !task.values || !task.positions || !task.starts || !task.lengths || !task.forward ||
-        !task.backward)
+    if (!task.picture || !task.out || !task.row || !task.values || !task.positions || !task.starts || !task.lengths ||
+        !task.forward || !task.backward)
         return 2;
     for (task.is_float = 0; task.is_float < 2; task.is_float++) {
         all_times(words[1]);

@@ -22,12 +22,44 @@ ALWAYS int rate_taken(const float *row, float *work, size_t width)
     return !bad;
 }
 
+/* A whole picture of grey bytes is read as it is. */
+ALWAYS int grey_read(const uint8_t *picture, size_t count)
+{
+    (void)picture, (void)count;
+    return 1;
+}
+
+ALWAYS uint32_t pattern(float x)
+{
+    uint32_t bits;
+    __builtin_memcpy(&bits, &x, sizeof bits);
+    return bits;
+}
+
+ALWAYS int is_finite(float x) { return (pattern(x) >> 23 & 0xff) != 0xff; }
+
+/* A whole picture of floats is looked through, and stays as it is where all are finite and none is a negative zero. Else
+ * each negative zero becomes a positive one, where all are finite: whether they are. */
+ALWAYS int rate_read(float *picture, size_t count)
+{
+    int other = 0, bad = 0;
+    for (size_t i = 0; i < count; i++) other |= !is_finite(picture[i]) || pattern(picture[i]) == 0x80000000u;
+    if (!other) return 1;
+    for (size_t i = 0; i < count; i++) bad |= !is_finite(picture[i]);
+    if (bad) return 0;
+    for (size_t i = 0; i < count; i++) picture[i] = picture[i] == 0 ? 0 : picture[i];
+    return 1;
+}
+
+ALWAYS size_t smaller(size_t a, size_t b) { return a < b ? a : b; }
+
 #define VALUE uint8_t
 #define NAME(x) grey_##x
 #define FIRST 0
 #define LAST 255
 #include "queue.h"
 #include "herk.h"
+#include "passes.h"
 #undef VALUE
 #undef NAME
 #undef FIRST
@@ -39,3 +71,4 @@ ALWAYS int rate_taken(const float *row, float *work, size_t width)
 #define LAST __builtin_inff()
 #include "queue.h"
 #include "herk.h"
+#include "passes.h"

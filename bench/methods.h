@@ -1,5 +1,6 @@
 /* The methods in C that the proved code is measured against, for both sample kinds: (a) the same queue method, a step and
- * a whole picture; (b) van Herk's. methods.c holds them and is compiled by the compiler of the proved code. */
+ * a whole picture; (b) van Herk's; (w) the same passes over a whole picture, in place. methods.c holds them and is compiled
+ * by the compiler of the proved code. */
 #include <stddef.h>
 #include <stdint.h>
 
@@ -12,7 +13,9 @@ enum { EROSION = 0, DILATION = 1 };
                               const value *picture, value *out, value *values, uint16_t *positions, uint8_t *starts,           \
                               uint8_t *lengths);                                                                               \
     void name##_herk_stage(int kind, size_t left, size_t right, size_t up, size_t down, size_t width, size_t rows,             \
-                           const value *picture, value *out, value *forward, value *backward);
+                           const value *picture, value *out, value *forward, value *backward);                                 \
+    int name##_passes_stage(int kind, size_t left, size_t right, size_t up, size_t down, size_t width, size_t rows,            \
+                            value *picture, value *row);
 
 METHODS(grey, uint8_t)
 METHODS(rate, float)

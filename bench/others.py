@@ -4,8 +4,9 @@
     others.py FOLDER RESULTS
 
 FOLDER holds the pictures that bench wrote, RESULTS its lines. Writes lines of the same form: processor time of one
-thread, nanoseconds per pixel, the median of three runs, or one run where that is slow. A time has a star where the
-answer's sum is not the one in RESULTS. What would take over LIMIT seconds is left out.
+thread, nanoseconds per pixel, the median of nine runs where a run takes under SHORT seconds, else of three, or one run
+where that is slow. A time has a star where the answer's sum is not the one in RESULTS. What would take over LIMIT seconds is
+left out.
 """
 import ctypes
 import ctypes.util
@@ -25,6 +26,7 @@ for name in 'OMP_NUM_THREADS', 'OPENBLAS_NUM_THREADS', 'VIPS_CONCURRENCY', 'MAGI
     os.environ[name] = '1'
 
 LIMIT = 10
+SHORT = 0.05
 
 
 class Absent(Exception):
@@ -53,34 +55,39 @@ def with_array(filter_by):
     def prepare(raw, sample, width, rows):
         picture = arrays(raw, sample, width, rows)
         try:
-            dilate = filter_by()
+            dilate = filter_by(picture)
         except ImportError:
             raise Absent
 
         def run(window):
-            result, seconds = timed(lambda: dilate(picture, window))
+            result, seconds = timed(lambda: dilate(window))
             return result.tobytes(), seconds
         return run
     return prepare
 
 
-def opencv():
+def opencv(picture, lent=None):
     import cv2
     import numpy
     cv2.setNumThreads(1)
-    return lambda picture, window: cv2.dilate(picture, numpy.ones((window, window), 'u1'))
+    return lambda window: cv2.dilate(picture, numpy.ones((window, window), 'u1'), dst=lent)
 
 
-def scipy():
+def opencv_lent(picture):
+    """With its output lent, so that it takes no memory for it, as a filter in place takes none."""
+    return opencv(picture, picture.copy())
+
+
+def scipy(picture):
     from scipy import ndimage
-    return lambda picture, window: ndimage.maximum_filter(picture, size=window, mode='nearest')
+    return lambda window: ndimage.maximum_filter(picture, size=window, mode='nearest')
 
 
-def scikit_image():
+def scikit_image(picture):
     from skimage import morphology
     can_split = 'decomposition' in inspect.signature(morphology.square).parameters      # from version 0.20 on
     square = lambda window: morphology.square(window, **({'decomposition': 'separable'} if can_split else {}))
-    return lambda picture, window: morphology.dilation(picture, square(window))
+    return lambda window: morphology.dilation(picture, square(window))
 
 
 def library(name):
@@ -159,16 +166,21 @@ def imagemagick(raw, sample, width, rows):
     return run
 
 
-LIBRARIES = {'OpenCV': with_array(opencv), 'SciPy': with_array(scipy), 'scikit-image': with_array(scikit_image),
-             'Leptonica': leptonica, 'libvips': libvips, 'ImageMagick': imagemagick}
+LIBRARIES = {'OpenCV': with_array(opencv), 'OpenCV, output lent': with_array(opencv_lent), 'SciPy': with_array(scipy),
+             'scikit-image': with_array(scikit_image), 'Leptonica': leptonica, 'libvips': libvips, 'ImageMagick': imagemagick}
 
 
 # ---- measuring
 
+def runs_for(seconds):
+    """How many runs are made where one takes so long."""
+    return 9 if seconds < SHORT else 3 if seconds <= LIMIT / 10 else 1
+
+
 def measure(run, window, pixels):
-    """The answer's sum, and nanoseconds per pixel of a run, or of three."""
+    """The answer's sum, and nanoseconds per pixel: the median of the runs."""
     given, seconds = run(window)
-    times = [seconds] if seconds > LIMIT / 10 else [seconds, run(window)[1], run(window)[1]]
+    times = [seconds] + [run(window)[1] for _ in range(runs_for(seconds) - 1)]
     return zlib.adler32(given), statistics.median(times) * 1e9 / pixels
 
 
@@ -192,7 +204,7 @@ def main():
             given, cost = measure(run, int(window), width * rows)
             known[name, sample, int(window)] = cost
             star = '' if given == int(expected) else '*'
-            print('time', sample, picture, size, window, name, '%.2f%s' % (cost, star), sep='\t', flush=True)
+            print('time', sample, picture, size, window, name, '%.3f%s' % (cost, star), sep='\t', flush=True)
 
 
 if __name__ == '__main__':

@@ -1,6 +1,6 @@
 #!/bin/sh
-# Measures the proved code against the same method in C, van Herk's method in C and what other libraries are installed,
-# and prints tables. bench/README.md says what is measured and what the libraries are called.
+# Measures the proved code, streaming and on whole pictures, against the same methods in C, van Herk's method in C and what
+# other libraries are installed, and prints tables. bench/README.md says what is measured and what the libraries are called.
 #
 #     bench/run.sh [RUNS [PROCESSES]]   RUNS rounds, 5 where it is not given, in each of PROCESSES processes, 7 where it is not given
 #     PYTHON=..                         the Python that sees the libraries, python3 where it is not given
@@ -19,12 +19,13 @@ proved=
 if [ -f bench/main.txt ]; then
     cp bench/main.txt $made/main.rt
     crates=$(sed -n '1s/^\/\/ crates: //p' bench/main.txt)
-    bench/native.sh $made/main.rt $made/proved.o 'grey_stage|rate_stage|grey_row|rate_row' $crates
+    entries='grey_stage|rate_stage|grey_row|rate_row|grey_whole|rate_whole|grey_plan|rate_plan'
+    bench/native.sh $made/main.rt $made/proved.o "$entries" $crates
     proved=$made/proved.o
 fi
 
-# (a), (b) The methods in C, by the kit's compiler, which has no headers of its own.
-printf '#pragma once\ntypedef __UINT8_TYPE__ uint8_t;\ntypedef __UINT16_TYPE__ uint16_t;\n' >$made/include/stdint.h
+# (a), (b), (w) The methods in C, by the kit's compiler, which has no headers of its own.
+printf '#pragma once\ntypedef __UINT8_TYPE__ uint8_t;\ntypedef __UINT16_TYPE__ uint16_t;\ntypedef __UINT32_TYPE__ uint32_t;\n' >$made/include/stdint.h
 printf '#pragma once\ntypedef __SIZE_TYPE__ size_t;\n' >$made/include/stddef.h
 "$clang" --target="$(uname -m)-unknown-linux-gnu" -std=c99 -O3 -fPIC -ffreestanding -isystem $made/include -Wall -Wextra -Werror \
     -c bench/methods.c -o $made/methods.o

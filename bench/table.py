@@ -3,9 +3,12 @@
 import statistics
 import sys
 
-METHODS = ('proved', 'queue in C', 'van Herk in C', 'OpenCV', 'SciPy', 'scikit-image', 'Leptonica', 'libvips', 'ImageMagick')
+METHODS = ('whole, proved', 'whole in C', 'proved', 'queue in C', 'van Herk in C', 'OpenCV', 'OpenCV, output lent', 'SciPy',
+           'scikit-image', 'Leptonica', 'libvips', 'ImageMagick')
+# Those whose means over the windows are compared.
+MEANT = 'whole, proved', 'whole in C', 'OpenCV', 'OpenCV, output lent'
 # How many fields at a line's end are measured, and so differ from process to process.
-MEASURED = {'time': 1, 'count': 1, 'latency': 2, 'memory': 1}
+MEASURED = {'time': 1, 'count': 1, 'plan': 1, 'latency': 2, 'memory': 1}
 
 
 def read(paths):
@@ -36,11 +39,27 @@ def numbers(cells):
 
 
 def median(cells):
-    """The median, with as many digits as each has, and with a star where one has one; a dash where there is none."""
+    """The median, with as many digits as each has."""
+    return '%.*f' % (len(cells[0].partition('.')[2]), statistics.median(numbers(cells)))
+
+
+def nanoseconds(value):
+    """A time, with one digit more where it is below 1."""
+    return '%.*f' % (3 if value < 0.9995 else 2, value)
+
+
+def median_time(cells):
+    """The median, with a star where one has one; a dash where there is none."""
     if not cells:
         return '-'
-    digits = len(cells[0].rstrip('*').partition('.')[2])
-    return '%.*f%s' % (digits, statistics.median(numbers(cells)), '*' if any(cell.endswith('*') for cell in cells) else '')
+    return nanoseconds(statistics.median(numbers(cells))) + ('*' if any(cell.endswith('*') for cell in cells) else '')
+
+
+def mean_time(several):
+    """The geometric mean of medians; a dash where one of them is missing."""
+    if not all(several):
+        return '-'
+    return nanoseconds(statistics.geometric_mean(statistics.median(numbers(cells)) for cells in several))
 
 
 def ratio(above, below):
@@ -60,19 +79,47 @@ def show(head, rows):
     print()
 
 
+def named(sample, picture, size):
+    return '%s, %s, %s' % (sample, picture, size.replace('x', ' × '))
+
+
+def columns(entries):
+    """The windows of a picture's times, and what was measured of a method at a window: nothing where it was not."""
+    cost = {(method, window): cells for window, method, cells in entries}
+    return list(dict.fromkeys(window for window, _, _ in entries)), lambda method, window: cost.get((method, window), ())
+
+
 def show_times(lines, counts):
-    for (sample, picture, size), entries in groups(lines, 3).items():
-        compared = dict(groups(counts, 3)[sample, picture, size])
-        cost = {(method, window): cells for window, method, cells in entries}
-        windows = list(dict.fromkeys(window for window, _, _ in entries))
-        present = [method for method in METHODS if any((method, window) in cost for window in windows)]
-        at = lambda method, window: cost.get((method, window), ())
-        print('%s, %s, %s: nanoseconds per pixel\n' % (sample, picture, size.replace('x', ' × ')))
-        rows = [[window] + [median(at(method, window)) for method in present]
-                + [ratio(at('proved', window), at('queue in C', window)), median(compared[window])] for window in windows]
+    for key, entries in groups(lines, 3).items():
+        compared = dict(groups(counts, 3)[key])
+        windows, at = columns(entries)
+        present = [method for method in METHODS if any(at(method, window) for window in windows)]
+        print('%s: nanoseconds per pixel\n' % named(*key))
+        rows = [[window] + [median_time(at(method, window)) for method in present]
+                + [ratio(at('whole, proved', window), at('whole in C', window)),
+                   ratio(at('proved', window), at('queue in C', window)), median(compared[window])] for window in windows]
         growth = [ratio(at(method, windows[-1]), at(method, windows[0])) for method in present]
         more = ratio(compared[windows[-1]], compared[windows[0]])
-        show(['window', *present, 'proved/queue', 'comparisons'], rows + [['largest/smallest', *growth, '', more]])
+        show(['window', *present, 'whole/C', 'proved/queue', 'comparisons'], rows + [['largest/smallest', *growth, '', '', more]])
+
+
+def show_means(lines):
+    print('nanoseconds per pixel, the geometric mean over the windows\n')
+    rows = []
+    for key, entries in groups(lines, 3).items():
+        windows, at = columns(entries)
+        rows.append([named(*key)] + [mean_time([at(method, window) for window in windows]) for method in MEANT])
+    show(['samples, picture', *MEANT], rows)
+
+
+def show_plans(lines):
+    if not lines:
+        return
+    print('a plan of eight stages on a whole picture: its time over that of one stage, by the window\n')
+    rows = {named(*key): dict(entries) for key, entries in groups(lines, 3).items()}
+    windows = list(next(iter(rows.values())))
+    show(['samples, picture', *windows], [[name] + ['%.2f' % statistics.median(numbers(cells[window])) for window in windows]
+                                          for name, cells in rows.items()])
 
 
 def show_latencies(lines):
@@ -96,5 +143,7 @@ if __name__ == '__main__':
     show_times(found['time'], found['count'])
     if any(cell.endswith('*') for line in found['time'] for cell in line[-1]):
         print('* its answer is not the largest value of the window at every pixel\n')
+    show_means(found['time'])
+    show_plans(found['plan'])
     show_latencies(found['latency'])
     show_memory(found['memory'])

@@ -7,41 +7,15 @@
  * written, or 64 where a word is not a number: digits and nothing else.
  */
 #include "kelafshir.h"
+#include "words.h"
 
 #include <stdio.h>
 
 static uint8_t row[KELAFSHIR_LONGEST_ROW + 1], out[KELAFSHIR_LONGEST_ROW + 1];
 
-static int is_number(const char *word)
-{
-    const char *at = word;
-    while (*at >= '0' && *at <= '9') at++;
-    return at != word && *at == '\0';
-}
-
-/* The number of a word of digits, and the most for every larger one: where it is the most, the filter refuses it. */
-static size_t number_of(const char *word, size_t most)
-{
-    size_t number = 0;
-    for (; *word != '\0' && number < most; word++) number = 10 * number + (size_t)(*word - '0');
-    return number < most ? number : most;
-}
-
-static uint8_t byte_of(const char *word)
-{
-    return (uint8_t)number_of(word, 255);
-}
-
-static int are_right(int count, char **words)
-{
-    for (int i = 1; i < count; i++)
-        if (!is_number(words[i])) return 0;
-    return count == 5;
-}
-
 int main(int count, char **words)
 {
-    if (!are_right(count, words)) {
+    if (!are_numbers(4, count, words)) {
         fputs("bench KIND LEFT RIGHT WIDTH < rows > filtered\n", stderr);
         return 64;
     }

@@ -1,4 +1,4 @@
-# What firmware/test.sh and tests/memory.sh share: C with the kit's own compiler, over the archive. Read in with `.` at the top.
+# What firmware/test.sh, tests/memory.sh and tests/whole.sh share: C with the kit's own compiler, over the archive. Read in with `.` at the top.
 kit=${RATTLE_HOME:-$(dirname "$(dirname "$(rt doc)")")}
 own=$kit/on/$(uname -m)
 made=target/firmware

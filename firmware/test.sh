@@ -1,13 +1,13 @@
 #!/bin/sh
-# Proves and builds the archive, builds the test of the one-row filter and the two examples over it with the kit's own
-# compiler, and runs them. On a machine that is not x86-64 they run under the kit's emulator. The last line is 'N passed, M failed'.
+# Proves and builds the archive, builds the test of the one-row filter and the three examples over it with the kit's
+# own compiler, and runs them. On a machine that is not x86-64 they run under the kit's emulator. The last line is 'N passed, M failed'.
 set -eu
 cd "$(dirname "$0")/.."
 . firmware/kit.sh
 
 rt staticlib firmware >$made/log 2>&1 || { cat $made/log; exit 1; }
 compile c++ c++11 firmware/kelafshir.h -fsyntax-only
-for name in test bench job; do program $name firmware/$name.c; done
+for name in test bench job picture; do program $name firmware/$name.c; done
 
 # The guards guard: one byte too far must be the end of the run.
 guarded 'a byte past the row is read' run $made/test beyond
@@ -16,17 +16,17 @@ guarded 'a byte past the row is read' run $made/test beyond
 line_p='\3\1\4\1\5\11\2\6'
 twice=$(printf "$line_p$line_p" | run $made/bench 1 1 2 8 | od -An -v -tu1 | tr -d ' \n')
 [ "$twice" = 3445999934459999 ] || { echo "the example gives $twice"; exit 1; }
+example=bench usage='bench KIND LEFT RIGHT WIDTH < rows > filtered'
 ends_with() { # STATUS ROWS WORDS..: how the example ends
     due=$1 rows=$2; shift 2
-    status=0; printf "$rows" | run $made/bench "$@" >$made/out 2>$made/said || status=$?
-    [ $status -eq $due ] || { echo "the example ends with $status, not with $due, on the words '$*'"; exit 1; }
+    status=0; printf "$rows" | run $made/$example "$@" >$made/out 2>$made/said || status=$?
+    [ $status -eq $due ] || { echo "$example ends with $status, not with $due, on the words '$*'"; exit 1; }
 }
 ends_with 13 '\3\1\4' 1 1 2 8
 # A word that is not a number gives the usage text and 64; a number that is too large is refused as such, however large it is.
 misused() { # WORDS..
     ends_with 64 "$line_p" "$@"
-    usage='bench KIND LEFT RIGHT WIDTH < rows > filtered'
-    [ ! -s $made/out ] && [ "$(cat $made/said)" = "$usage" ] || { echo "the example gives more or less than its usage text on the words '$*'"; exit 1; }
+    [ ! -s $made/out ] && [ "$(cat $made/said)" = "$usage" ] || { echo "$example gives more or less than its usage text on the words '$*'"; exit 1; }
 }
 for word in 8x x 1x2 '' ' 1' '1 ' +1 -1 0x1 1.0; do
     misused "$word" 1 2 8; misused 1 "$word" 2 8; misused 1 1 "$word" 8; misused 1 1 2 "$word"
@@ -37,9 +37,26 @@ for large in 256 65536 4294967297 18446744073709551617; do
 done
 for width in 0 65536 65537 4294967304 18446744073709551624; do ends_with 4 "$line_p" 1 1 2 $width; done
 
-# The other example: document 01's whole case, and the same job without its last byte, which is 13.
+# The second example: document 01's whole case, and the same job without its last byte, which is 13.
 whole=$(printf '\1\1\1\0\0\0\0\3\0\1\0\5\2\7' | run $made/job | od -An -v -tx1 | tr -d ' \n')
 [ "$whole" = 020003000100010507070000 ] || { echo "the job gives $whole"; exit 1; }
 status=0; printf '\1\1\1\0\0\0\0\3\0\1\0\5\2' | run $made/job >>$made/log || status=$?
 [ $status -eq 13 ] || { echo "the job ends with $status where its row is cut short"; exit 1; }
+
+# The third example: a square of 3 pixels a side stays, a dot of one goes. What it refuses it does not write.
+example=picture usage='picture WIDTH HALF < picture > opened'
+square='\11\11\11\0\0\0\11\11\11\0\7\0\11\11\11\0\0\0'
+ends_with 0 "$square" 6 1
+opened=$(od -An -v -tu1 $made/out | tr -d ' \n')
+[ "$opened" = 999000999000999000 ] || { echo "the picture is opened to $opened"; exit 1; }
+refused() { # STATUS PICTURE WORDS..
+    ends_with "$@"
+    [ ! -s $made/out ] || { echo "$example writes what it refuses with $1"; exit 1; }
+}
+refused 3 "$square" 6 32; refused 4 "$square" 0 1; refused 4 "$square" 4097 1; refused 4 '' 6 1; refused 7 "$square\1" 6 1
+for large in 65536 4294967302 18446744073709551622; do refused 3 "$square" 6 $large; refused 4 "$square" $large 1; done
+misused; misused 6; misused 6 1 1; misused 6 -1; misused x 1
+status=0; head -c 1048577 /dev/zero | run $made/picture 1024 1 >$made/out || status=$?
+[ $status -eq 6 ] && [ ! -s $made/out ] || { echo "a picture that is too long for the example ends with $status"; exit 1; }
+
 run $made/test

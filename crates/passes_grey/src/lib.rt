@@ -123,7 +123,7 @@ fn turn_back(kind: Kind, s: usize, flip: bool, a: &mut [u8], t: &mut [u8])
 
 // The line reaches as far ahead as it is to; whether the other slice holds it.
 fn line_ahead(kind: Kind, far: usize, a: &mut [u8], t: &mut [u8]) -> bool
-    requires { ⌜ length (now a) ≡ length (now t) ⌝ }
+    requires { ⌜ (length (now a) ≡ length (now t)) × (far ≤ 255) ⌝ }
     ensures { λ r. ⌜ Reached (orderOf kind grey) 1 0 far (now (a .entry)) (held r (now (a .exit)) (now (t .exit))) ⌝ }
 {
     let mut r = 0;

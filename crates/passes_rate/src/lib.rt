@@ -126,7 +126,7 @@ fn turn_back(kind: Kind, s: usize, flip: bool, a: &mut [f32], t: &mut [f32])
 
 // The line reaches as far ahead as it is to; whether the other slice holds it.
 fn line_ahead(kind: Kind, far: usize, a: &mut [f32], t: &mut [f32]) -> bool
-    requires { ⌜ (length (now a) ≡ length (now t)) × Each Taken (now a) ⌝ }
+    requires { ⌜ (length (now a) ≡ length (now t)) × (far ≤ 255) × Each Taken (now a) ⌝ }
     ensures { λ r. ⌜ Reached (orderOf kind rate) 1 0 far (now (a .entry)) (held r (now (a .exit)) (now (t .exit))) ⌝ }
 {
     let mut r = 0;

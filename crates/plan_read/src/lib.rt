@@ -112,9 +112,9 @@ fn judge_each(stages: &[[u8; 5]]) -> u8
 {
     let mut i = 0;
     while i < stages.len() {
-        let number = judge_stage(&stages[i][..], 0);
-        if number != 0 {
-            return number;
+        let told = judge_stage(&stages[i][..], 0);
+        if told != 0 {
+            return told;
         }
         i += 1;
     }

@@ -1,7 +1,7 @@
 -- The exponent's field of a bit pattern tells whether its float is finite.
 -- By which idea: `ofBits` reads a pattern by its fields, and gives an infinity or a NaN exactly where the exponent's is all ones.
 use mathlib.Core.Path.{_≡_, refl, sym, ap, _∙_}
-use mathlib.Core.Bool.{Bool, true, false, not, cond, _&&_, false≢true}
+use mathlib.Core.Bool.{Bool, true, false, not, cond, false≢true}
 use Prim.Native.Nat.{ℕ, zero, suc, _+_, _*_, _/_, _%_, _^_}
 use native.Mathlib.Omega.{arith}
 use borrow.Author.Tests.{ne-eqb, eqb-true, eqb-false}
@@ -13,7 +13,7 @@ use lib.Ieee.{Float, nan, inf, fin, up, down, Format, binary32, prec, emax, low,
 use lib.Ieee.Bits.{ofBits-toBits}
 use lib.Ieee.Scale.{finite}
 use Rattle.morph.proofs.Lists.{split}
-use Rattle.sample.specs.Rate.{negativeZero, accepted}
+use Rattle.sample.specs.Rate.{negativeZero}
 use Rattle.sample.proofs.Floats.{power-one}
 
 -- ---- any format
@@ -75,11 +75,8 @@ unfolding ofBits
 sign-alone = refl
 
 -- its sign bit stands alone, and in no other pattern
-bits-negative : (x : Float) → T (fits binary32 x) → eqb (toBits binary32 x) 2147483648 ≡ negativeZero x
+pub bits-negative : (x : Float) → T (fits binary32 x) → eqb (toBits binary32 x) 2147483648 ≡ negativeZero x
 bits-negative x p =
     split (eqb (toBits binary32 x) 2147483648)
     (λ h. h ∙ sym (ap negativeZero (sym (ofBits-toBits binary32 x p) ∙ ap (ofBits binary32) (eqb-true (toBits binary32 x) 2147483648 h) ∙ sign-alone)))
     (λ h. h ∙ sym (split (negativeZero x) (λ n. absurd (eqb-false (toBits binary32 x) 2147483648 h (negative-bits x p n))) (λ n. n)))
-
-pub bits-accepted : (x : Float) → T (fits binary32 x) → (not (eqb (exponentBits (toBits binary32 x)) 255) && not (eqb (toBits binary32 x) 2147483648)) ≡ accepted x
-bits-accepted x p = rw (bits-finite x p, bits-negative x p) refl

@@ -39,8 +39,7 @@ fn is_accepted(x: f32) -> bool
     ensures { λ r. ⌜ r ≡ accepted x ⌝ }
 {
     let bits = to_pattern(x);
-    let exponent = (bits >> 23) & 0xff;
-    (exponent != 0xff) & (bits != 0x8000_0000)
+    is_finite(x) & (bits != 0x8000_0000)
 }
 
 // A negative zero is read as positive zero, and every other value as itself.

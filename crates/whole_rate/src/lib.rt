@@ -51,12 +51,12 @@ fn take(picture: &mut [f32]) -> usize
     if sample::rate::all_accepted(&picture[..]) {
         return picture.len();
     }
-    let bad = sample::rate::first_not_finite(&picture[..]);
-    if bad < picture.len() {
-        return bad;
+    let first = sample::rate::first_not_finite(&picture[..]);
+    if first < picture.len() {
+        return first;
     }
     sample::rate::clean(picture);
-    bad
+    first
 }
 
 // Applies the plan to the picture, in its place. Refused 1, or stage by stage 3; then 4; 7, 6; 8. A refused call changes nothing.

@@ -18,10 +18,10 @@ abbrev μ-loop : tie.MeasureT-loop
 μ-loop kind far a₀ t₀ r₀ flip₀ a t r flip = far - r
 
 loop-holds : tie.Need-loop-holds Inv-loop μ-loop
-loop-holds c = (refl, sym (c .before .before .pre), omega arith, reach-start _ _ _ (greater-picks _) 1 _ (any-each (orderOf (c .before .before .args .kind) grey) (c .before .before .args .a .now)))
+loop-holds c = (refl, sym (c .before .before .pre .0), omega arith, reach-start _ _ _ (greater-picks _) 1 _ (any-each (orderOf (c .before .before .args .kind) grey) (c .before .before .args .a .now)))
 
 add-smaller : tie.Need-add-smaller Inv-loop μ-loop
-add-smaller c = omega arith
+add-smaller c = omega (arith, c .before .before .before .before .pre)
 
 sub-smaller : tie.Need-sub-smaller Inv-loop μ-loop
 sub-smaller c = omega arith
@@ -48,7 +48,7 @@ same-length : tie.Need-same-length Inv-loop μ-loop
 same-length c = c .before .loop .inv .0
 
 same-length-2 : tie.Need-same-length-2 Inv-loop μ-loop
-same-length-2 c = c .before .loop .inv .1 ∙ c .before .before .before .before .pre
+same-length-2 c = c .before .loop .inv .1 ∙ c .before .before .before .before .pre .0
 
 returns : tie.Need-returns Inv-loop μ-loop
 returns c = let l = c .before .loop in let e : l .r ≡ c .before .before .before .before .args .far = omega arith in rw (← e) (l .inv .3)

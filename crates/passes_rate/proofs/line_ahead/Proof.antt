@@ -22,10 +22,10 @@ abbrev μ-loop : tie.MeasureT-loop
 μ-loop kind far a₀ t₀ r₀ flip₀ a t r flip = far - r
 
 loop-holds : tie.Need-loop-holds Inv-loop μ-loop
-loop-holds c = (refl, sym (c .before .before .pre .0), omega arith, reach-start _ _ _ (rate-picks (c .before .before .args .kind)) 1 _ (c .before .before .pre .1))
+loop-holds c = (refl, sym (c .before .before .pre .0), omega arith, reach-start _ _ _ (rate-picks (c .before .before .args .kind)) 1 _ (c .before .before .pre .2))
 
 add-smaller : tie.Need-add-smaller Inv-loop μ-loop
-add-smaller c = omega arith
+add-smaller c = omega (arith, c .before .before .before .before .pre)
 
 sub-smaller : tie.Need-sub-smaller Inv-loop μ-loop
 sub-smaller c = omega arith
@@ -46,7 +46,7 @@ loop-again : tie.Need-loop-again Inv-loop μ-loop
 loop-again c =
     let l = c .before .before .before .before .before .before .before .before .before .loop in
     let k = orderOf (c .before .before .before .before .before .before .before .before .before .before .before .before .args .kind) rate in
-    (c .before .before .before .a .given ∙ l .inv .0, c .before .t .given ∙ l .inv .1, omega (arith, c .before .before .before .before .before .before .before .smaller .ensures), line-ahead k _ _ (rate-picks (c .before .before .before .before .before .before .before .before .before .before .before .before .args .kind)) _ (c .before .before .before .before .before .before .before .before .before .before .before .before .pre .1) (l .r) _ (c .before .before .before .before .before .before .before .before .before .before .before .before .args .far) _ _ (c .before .before .before .before .before .before .before .smaller .ensures) (l .inv .3) (c .before .before .before .before .turn-ahead .ensures))
+    (c .before .before .before .a .given ∙ l .inv .0, c .before .t .given ∙ l .inv .1, omega (arith, c .before .before .before .before .before .before .before .smaller .ensures), line-ahead k _ _ (rate-picks (c .before .before .before .before .before .before .before .before .before .before .before .before .args .kind)) _ (c .before .before .before .before .before .before .before .before .before .before .before .before .pre .2) (l .r) _ (c .before .before .before .before .before .before .before .before .before .before .before .before .args .far) _ _ (c .before .before .before .before .before .before .before .smaller .ensures) (l .inv .3) (c .before .before .before .before .turn-ahead .ensures))
 
 same-length : tie.Need-same-length Inv-loop μ-loop
 same-length c = c .before .loop .inv .0

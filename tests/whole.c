@@ -1,0 +1,142 @@
+/* Applies plans to whole pictures through kelafshir.h, one call after the other, for whole.py.
+ *
+ * Of each call standard input has seven numbers of 8 bytes, low byte first: what is called (0 the filter of grey bytes, 1
+ * that of floats, 2 a job), whether what is lent lies at the back of its room, the stage count, the width, the rows, and the
+ * lengths of the picture and of the lent row, in pixels; then the stages, the picture and the row. A job is given as the
+ * picture, and its output as the row.
+ * Standard output gets the number, the row and the column (8 bytes each; of a job the length that was written, and 0), a
+ * byte that is 1 where nothing beside what was lent is changed, and the stages, the picture and the row as they are then.
+ *
+ * All three lie against a page that nobody may touch, with their last byte or with their first, so a byte read or written
+ * outside on that side stops the run. The bytes on the open side are compared afterwards. With a word on the command line,
+ * stages, picture or row, the outermost byte of that one is not there and lent nevertheless: the run must die of it.
+ */
+#include "kelafshir.h"
+
+#include <stdio.h>
+
+void *mmap(void *, size_t, int, int, int, long);
+int mprotect(void *, size_t, int);
+
+enum { GUARD = 65536, BESIDE = 64, MARK = 0xa5 };
+enum what { GREY, FLOATS, JOB };
+enum number { WHAT, AT_BACK, STAGE_COUNT, WIDTH, ROWS, PICTURE_LENGTH, ROW_LENGTH, NUMBERS };
+
+/* The most bytes of a picture, a row or all stages of a call. */
+static const size_t room = 16777216;
+
+static uint8_t *guarded(void)
+{
+    uint8_t *all = mmap(NULL, GUARD + room + GUARD, 3, 0x22, -1, 0);    /* read and write; private, no file */
+    if (mprotect(all, GUARD, 0) != 0 || mprotect(all + GUARD + room, GUARD, 0) != 0) __builtin_trap();
+    return all + GUARD;
+}
+
+/* ---- the stream */
+
+static int is_read(uint8_t *bytes, size_t length)
+{
+    return fread(bytes, 1, length, stdin) == length;
+}
+
+static size_t number_of(const uint8_t *bytes)
+{
+    size_t number = 0;
+    for (int i = 7; i >= 0; i--) number = number << 8 | bytes[i];
+    return number;
+}
+
+static void put_number(uint8_t *bytes, size_t number)
+{
+    for (int i = 0; i < 8; i++) bytes[i] = (uint8_t)(number >> 8 * i);
+}
+
+static int is_written(const uint8_t *bytes, size_t length)
+{
+    return fwrite(bytes, 1, length, stdout) == length;
+}
+
+/* ---- what is lent */
+
+struct block {
+    uint8_t *room, *at, *open;    /* open: the bytes on the side without a guard */
+    size_t length;
+};
+
+static struct block stages, picture, row;
+
+/* Lends the next bytes of standard input. Those that are missing lie in the guard. No bytes at the front are NULL. */
+static int is_lent(struct block *block, size_t length, int at_back, size_t missing)
+{
+    size_t there = length - missing;
+    uint8_t *first = at_back ? block->room + room - there : block->room;
+    block->length = length;
+    block->at = at_back ? first : length == 0 ? NULL : first - missing;
+    block->open = at_back ? first - BESIDE : first + there;
+    for (size_t i = 0; i < BESIDE; i++) block->open[i] = MARK;
+    return is_read(first, there);
+}
+
+static int is_intact(const struct block *block)
+{
+    for (size_t i = 0; i < BESIDE; i++)
+        if (block->open[i] != MARK) return 0;
+    return 1;
+}
+
+static int is_block_written(const struct block *block)
+{
+    return is_written(block->at, block->length);
+}
+
+/* ---- one call */
+
+static struct kelafshir_filtered called(const size_t *given)
+{
+    size_t count = given[STAGE_COUNT], width = given[WIDTH], rows = given[ROWS];
+    if (given[WHAT] == GREY)
+        return kelafshir_filter_picture(stages.at, count, width, rows, picture.at, given[PICTURE_LENGTH], row.at,
+                                        given[ROW_LENGTH]);
+    if (given[WHAT] == FLOATS)
+        return kelafshir_filter_rates(stages.at, count, width, rows, (float *)picture.at, given[PICTURE_LENGTH],
+                                      (float *)row.at, given[ROW_LENGTH]);
+    struct kelafshir_job_run run = kelafshir_run_job(picture.at, picture.length, row.at, row.length);
+    return (struct kelafshir_filtered){run.number, run.written, 0};
+}
+
+static int is_answered(const size_t *given)
+{
+    struct kelafshir_filtered answer = called(given);
+    uint8_t told[18] = {answer.number};
+    put_number(told + 1, answer.row);
+    put_number(told + 9, answer.column);
+    told[17] = is_intact(&stages) && is_intact(&picture) && is_intact(&row);
+    return is_written(told, sizeof told) && is_block_written(&stages) && is_block_written(&picture)
+        && is_block_written(&row) && fflush(stdout) == 0;
+}
+
+/* Lengths in pixels become bytes here. 0 where one is too long for its room, or not all of it comes. */
+static int is_all_lent(const size_t *given, char lacking)
+{
+    size_t size = given[WHAT] == FLOATS ? 4 : 1, most = room / 5 - BESIDE;
+    if (given[STAGE_COUNT] > most || given[PICTURE_LENGTH] > most || given[ROW_LENGTH] > most) return 0;
+    int at_back = given[AT_BACK] != 0;
+    return is_lent(&stages, 5 * given[STAGE_COUNT], at_back, lacking == 's')
+        && is_lent(&picture, size * given[PICTURE_LENGTH], at_back, lacking == 'p')
+        && is_lent(&row, size * given[ROW_LENGTH], at_back, lacking == 'r');
+}
+
+int main(int count, char **words)
+{
+    uint8_t numbers[8 * NUMBERS];
+    stages.room = guarded();
+    picture.room = guarded();
+    row.room = guarded();
+    while (is_read(numbers, sizeof numbers)) {
+        size_t given[NUMBERS];
+        for (int i = 0; i < NUMBERS; i++) given[i] = number_of(numbers + 8 * i);
+        if (!is_all_lent(given, count > 1 ? words[1][0] : 0)) return 65;
+        if (!is_answered(given)) return 74;
+    }
+    return 0;
+}
