@@ -3,7 +3,8 @@
  *
  * `rt staticlib firmware` proves them all and writes target/staticlib/libfirmware.a for x86-64 Linux; link that. None keeps
  * anything between calls or takes memory but of the stack, a job about 90 KB and the others a little, so calls may run
- * side by side. Of the C library they may need memcpy and memset.
+ * side by side. Of the C library they may need memcpy and memset. Floats are compared in the float environment that a C
+ * program starts with: one that has the processor take subnormal numbers for zeros gets zeros for them.
  */
 #ifndef KELAFSHIR_H
 #define KELAFSHIR_H
@@ -21,8 +22,8 @@ enum kelafshir_kind {
     KELAFSHIR_DILATION = 1
 };
 
-/* The largest extent; the most pixels of a row that is filtered by itself; and the most stages, columns and rows of a whole
- * picture. */
+/* The largest extent; the most pixels of a row that is filtered by itself; the most stages of a plan; and the most columns
+ * and rows of a picture. */
 enum kelafshir_limit {
     KELAFSHIR_LARGEST_EXTENT = 31,
     KELAFSHIR_LONGEST_ROW = 65535,
@@ -40,8 +41,8 @@ enum kelafshir_number {
     KELAFSHIR_EXTENT = 3,           /* an extent is over 31 */
     KELAFSHIR_SIZE = 4,             /* a width, a row count or a line's length is 0 or too large */
     KELAFSHIR_SAMPLE_KIND = 5,      /* the sample kind is not grey or float, or not the state's */
-    KELAFSHIR_MEMORY = 6,           /* too few queue cells, column records or bytes of output are lent, or too short a row to work in */
-    KELAFSHIR_ROW_LENGTH = 7,       /* a row is not as long as the width, two rows differ in length, or a picture is not its rows together */
+    KELAFSHIR_MEMORY = 6,           /* too few queue cells, column records, bytes of output or places of a row are lent */
+    KELAFSHIR_ROW_LENGTH = 7,       /* a row is not as long as the width, two rows differ, or a picture is not its rows */
     KELAFSHIR_NOT_FINITE = 8,       /* a pixel is not finite */
     KELAFSHIR_ALL_READ = 9,         /* a row or pixel is offered when all have been read */
     KELAFSHIR_NO_DRAIN = 10,        /* a drain is asked before all are read, or after the last output */
@@ -104,13 +105,16 @@ struct kelafshir_filtered {
     size_t column;
 };
 
-/* Applies a plan to a whole picture of grey bytes, in its place: one stage after another, each as the one-row filter does it,
- * across and down. Pixels off the picture take no part.
+/* Applies a plan to a whole picture of grey bytes, in its place, one stage after another. Pixels off the picture take no part.
  *
- * A stage is five bytes, as in a job: kind, left, right, up, down; stages points to stage_count of them. The picture is its
- * rows one after another, picture_length pixels together. row is room to work in, width pixels at least; what it holds after
- * a call that is done is not told, and what lies in it past width is as it was. All three belong to the caller and must not
- * overlap. The stages are only read.
+ * A stage is five bytes, as in a job: kind, left, right, up, down. An erosion gives in row y and column x the smallest value
+ * of rows y - up to y + down and columns x - left to x + right; a dilation the largest of rows y - down to y + up and columns
+ * x - right to x + left.
+ *
+ * stages points to stage_count stages, so to five times as many bytes. The picture is its rows one after another,
+ * picture_length pixels together. row is room to work in, row_length pixels and at least width; what its first width pixels
+ * hold after a call that is done is not told, and what lies past them is as it was. All three belong to the caller and must
+ * not overlap; one whose length is 0 may be null. The stages are only read.
  *
  * Answers KELAFSHIR_DONE, or the first of these that is so:
  *   KELAFSHIR_STAGE_COUNT  stage_count is 0 or over 16
@@ -123,8 +127,10 @@ struct kelafshir_filtered {
 struct kelafshir_filtered kelafshir_filter_picture(const uint8_t *stages, size_t stage_count, size_t width, size_t rows,
                                                    uint8_t *picture, size_t picture_length, uint8_t *row, size_t row_length);
 
-/* The same of a picture of 32-bit floats. A negative zero is read as a positive one, so none is left. After the others comes
- *   KELAFSHIR_NOT_FINITE   a pixel is an infinity or no number; the answer names the first, by row and column from 0
+/* The same of a picture of 32-bit floats; its lengths are in floats. A negative zero is read as a positive one, so none is
+ * left. After the others comes
+ *   KELAFSHIR_NOT_FINITE   a pixel is an infinity or no number; the answer names the first, row by row from the top, its row
+ *                          and column counted from 0
  * and then too picture and row are as they were.
  */
 struct kelafshir_filtered kelafshir_filter_rates(const uint8_t *stages, size_t stage_count, size_t width, size_t rows,

@@ -1,5 +1,5 @@
 #!/usr/bin/env python3
-"""Holds the filters of whole pictures, from C, to definition.py and to jobs in memory: every byte that a call leaves.
+"""Holds the filters of whole pictures, from C, to definition.py, to jobs in memory and to the program: every byte that a call leaves.
 
     python3 tests/whole.py COUNT SEED COMMAND..
     python3 tests/whole.py --self
@@ -7,7 +7,7 @@
 COMMAND runs tests/whole.c. Each call is made twice, with what is lent against a guard behind it and before it. The calls: document 01's
 cases, its line P filtered twice and float patterns; lines of 1 to 20 pixels across and down, with every pair of extents; the edges of
 the sizes; COUNT random pictures; every choice of things that can be wrong, together; and COUNT jobs, whose rows the job in memory has to
-give too. A difference is printed with its call in hexadecimal. tests/whole.sh builds it all and runs this.
+give too, and a tenth as many for ./kelafshir. A difference is printed with its call in hexadecimal. tests/whole.sh builds it all and runs this.
 --self needs no command: it holds what is expected here to the tables' answers, the random calls to giving every number, and the
 comparison to telling every wrong outcome.
 """
@@ -15,6 +15,7 @@ import collections
 import itertools
 import math
 import multiprocessing
+import pathlib
 import random
 import struct
 import subprocess
@@ -25,6 +26,7 @@ from cases import tables
 from definition import FLOAT, GREY, Stage, after
 from twice import raster
 
+TOP = pathlib.Path(__file__).resolve().parent.parent
 JOB = 2
 BYTES = {GREY: 1, FLOAT: 4, JOB: 1}
 
@@ -327,12 +329,21 @@ def by_jobs(command, rng, count):
         yield 'job %d' % at, call, outcome_by_answer(call, ran.row[:ran.at_row])
 
 
+def by_program(rng, count):
+    """Calls with what the program answers. Its first use may prove and build it, for minutes."""
+    for at in range(count):
+        job = any_job(rng, at)
+        call = call_of_job(rng, job)
+        answered = subprocess.run([str(TOP / 'kelafshir')], input=job, stdout=subprocess.PIPE, check=True).stdout
+        yield 'job %d by the program' % at, call, outcome_by_answer(call, answered)
+
+
 def check_calls(count, seed, words):
     rng = random.Random(seed)
     with multiprocessing.Pool() as pool, subprocess.Popen(words, stdin=subprocess.PIPE, stdout=subprocess.PIPE) as command:
         by_definition = itertools.chain(lines(rng, count), sizes(rng), random_calls(rng, count), refused_calls(rng, count))
         counts, numbers = compared(command, itertools.chain(
-            table_calls(rng), defined(pool, by_definition), by_jobs(command, rng, count)))
+            table_calls(rng), defined(pool, by_definition), by_jobs(command, rng, count), by_program(rng, count // 10)))
         command.stdin.close()
         counts[True] += command.wait() != 0
     for sample, name in (GREY, 'grey'), (FLOAT, 'float'):

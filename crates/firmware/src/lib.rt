@@ -54,7 +54,7 @@ pub extern "C" fn kelafshir_run_job(job: &[u8], out: &mut [u8]) -> JobRun
     job_run::run(job, out)
 }
 
-// Applies the stages, five bytes each, to the picture of grey bytes in its place, and answers 0; or answers the number of a refusal, and for 8 the pixel, and changes nothing.
+// Applies the stages, five bytes each, to the picture of grey bytes in its place, and answers 0; or answers the number of a refusal, and changes nothing.
 #[no_mangle]
 pub extern "C" fn kelafshir_filter_picture(
     stages: &[[u8; 5]],

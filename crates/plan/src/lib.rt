@@ -8,6 +8,8 @@ pub use plan_named::closing;
 pub use plan_named::opening;
 // promise: plan_record/specs/Plan.antt `planRead`
 pub use plan_read::read;
+// promise: plan_record/specs/Plan.antt `planGiven`
+pub use plan_read::read_stages;
 // meaning: plan_record/specs/Plan.antt `needsOf`
 pub use plan_record::Need;
 // meaning: plan_record/specs/Plan.antt `stagesOf`
