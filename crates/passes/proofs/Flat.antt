@@ -1,27 +1,25 @@
 -- What is reached by passes is what the definitions say: of a line, of the columns of a picture in one list, and so of a stage.
 -- By which idea: of values that are told apart only one is a greatest.
 use mathlib.Core.Path.{_≡_, refl, sym, ap, _∙_, subst}
-use mathlib.Core.Bool.{Bool, true, false}
+use mathlib.Core.Bool.{true}
 use mathlib.Core.List.{List, [], _∷_, map}
 use mathlib.Core.Logic.{_⊎_, inl, inr, ⊎-elim}
 use Prim.Native.Nat.{ℕ, zero, suc, _+_, _-_, _*_, _/_, _%_, _≤_, _<_}
 use native.Mathlib.Nat.{mul-le-mul-right, mul-one, suc-mul, mod-lt, mul-zero, div-add-mod', div-lt-iff-lt-mul}
 use native.Mathlib.Omega.{arith}
-use borrow.Author.Tests.{leb-true, leb-false}
-use lib.Dec.{leb}
 use lib.ListN.{length, getD, length-take, length-drop, length-map, List·getD-map}
 use lib.Seq.{slice, ext-getD, getD-take, getD-drop, length-slice}
 use Rattle.morph.specs.Lists.{tabulate, Each, In}
 use Rattle.morph.specs.Order.{Order}
-use Rattle.morph.specs.Line.{best, bestAt, filterLine}
-use Rattle.morph.specs.Picture.{Picture, Wide, Stage, applyStage, across, column, down, pixels}
-use Rattle.morph.proofs.Lists.{split, length-tabulate, getD-tabulate, tabulate-ext, each-getD, each-tabulate, in-slice, slice-in, each-slice}
+use Rattle.morph.specs.Line.{bestAt, filterLine}
+use Rattle.morph.specs.Picture.{Wide, Stage, applyStage, across, column, down}
+use Rattle.morph.proofs.Lists.{length-tabulate, getD-tabulate, tabulate-ext, each-getD, each-tabulate, in-slice, slice-in, each-slice}
 use Rattle.morph.proofs.Line.{length-line, line-at, line-each, best-in, best-greatest}
 use Rattle.morph.proofs.Picture.{separable}
 use Rattle.laws.specs.Laws.{Told}
 use Rattle.passes.specs.Flat.{flatRow, flatRows}
 use Rattle.passes.specs.Inner.{Near, Greatest, Reached, ThenBack, Crossed}
-use Rattle.passes.proofs.Reach.{reached-each, below-or}
+use Rattle.passes.proofs.Reach.{below-or}
 
 -- a window of a line, by its ends
 near-of : (B F n i k : ℕ) → i - B ≤ k → k < i + F + 1 → k < n → Near 1 B F n i k

@@ -1,17 +1,15 @@
 -- A pass in two parts, as the code makes it: the places that have a second, and those that stay.
 use mathlib.Core.Path.{_≡_, refl, sym, ap, _∙_}
-use mathlib.Core.Bool.{true, false, cond}
-use mathlib.Core.List.{List, [], _∷_, _++_, append-nil}
-use Prim.Native.Nat.{ℕ, zero, suc, _+_, _-_, _≤_, _<_, min}
+use mathlib.Core.List.{List, _++_, append-nil}
+use Prim.Native.Nat.{ℕ, suc, _+_, _-_, _≤_, _<_}
 use native.Mathlib.Nat.{mul-one, eq-or-lt-of-le}
 use native.Mathlib.Omega.{arith}
 use borrow.Author.Tests.{lt-ltb, le-ltb}
 use borrow.Rule.Slice.PartMut.{putMid}
-use lib.Dec.{ltb}
 use lib.ListN.{length, getD, take, drop, set, length-set, length-append, length-take, length-drop, drop-of-length-le, List·getD-append}
 use lib.Seq.{getD-set-same, getD-set-other, ext-getD, getD-append-add, getD-drop, getD-take, take-at, drop-at, take-all}
 use Rattle.morph.specs.Lists.{tabulate}
-use Rattle.morph.proofs.Lists.{split, length-tabulate, getD-tabulate}
+use Rattle.morph.proofs.Lists.{length-tabulate, getD-tabulate}
 use Rattle.passes.specs.Inner.{pairs, aheadAt, aheadBy, Runs, Back}
 use Rattle.passes.proofs.Reach.{below-or}
 use mathlib.Core.Logic.{⊎-elim}

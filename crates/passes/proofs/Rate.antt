@@ -1,16 +1,16 @@
 -- The code's choice between two floats picks the greater of the two in the kind's order, among pixels as they are read.
 use mathlib.Core.Path.{_≡_, refl, _∙_}
 use mathlib.Core.Bool.{Bool, true, false, not, _||_, false≢true}
-use mathlib.Core.Logic.{_⊎_, inl, inr}
+use mathlib.Core.Logic.{inl, inr}
 use Prim.Native.Nat.{ℕ, _+_, _*_}
 use native.Mathlib.Omega.{arith}
-use borrow.Author.Tests.{ltb-true, ltb-false, eqb-true, eqb-false, lt-ltb, eq-eqb}
-use lib.Dec.{ltb, eqb}
+use borrow.Author.Tests.{ltb-true, ltb-false, eqb-true, eqb-false, eq-eqb}
+use lib.Dec.{ltb}
 use lib.Ieee.{Float, nan, inf, fin, up, down, below, level, lt, eq, le}
 use lib.Ieee.Scale.{finite}
 use Rattle.morph.specs.declared.Kind.{Kind}
 use Rattle.morph.specs.declared.Kind.the-variants.{Erosion, Dilation}
-use Rattle.morph.specs.Order.{Order, orderOf}
+use Rattle.morph.specs.Order.{orderOf}
 use Rattle.morph.specs.Rate.{rate}
 use Rattle.morph.proofs.Lists.{split, both}
 use Rattle.morph.proofs.Order.{rate-le}

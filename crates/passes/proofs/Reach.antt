@@ -1,6 +1,6 @@
 -- Passes by doubling reach as far as their steps add up to, over any order.
 -- By which idea: a place has the greatest of two windows of one list, which touch or overlap because a step is at most one longer than what is reached.
-use mathlib.Core.Path.{_≡_, refl, sym, ap, _∙_, subst}
+use mathlib.Core.Path.{_≡_, refl, sym, _∙_, subst}
 use mathlib.Core.Bool.{Bool, true, false, cond}
 use mathlib.Core.List.{List, [], _∷_}
 use mathlib.Core.Logic.{_⊎_, inl, inr, ⊎-elim}
@@ -10,7 +10,7 @@ use native.Mathlib.Omega.{arith}
 use borrow.Author.Tests.{ltb-true, ltb-false, leb-true, leb-false}
 use lib.Dec.{ltb, leb}
 use lib.ListN.{length, getD}
-use Rattle.morph.specs.Lists.{tabulate, Each}
+use Rattle.morph.specs.Lists.{Each}
 use Rattle.morph.specs.Order.{Order}
 use Rattle.morph.specs.Line.{greater}
 use Rattle.morph.proofs.Lists.{split, length-tabulate, getD-tabulate, each-getD}

@@ -1,12 +1,11 @@
 -- Rows of a picture in one list, filtered one after another in place.
-use mathlib.Core.Path.{_≡_, refl, sym, ap, _∙_, subst}
+use mathlib.Core.Path.{_≡_, refl, sym, ap, _∙_}
 use mathlib.Core.List.{List, [], _∷_, _++_, flatten, append-nil, append-assoc}
 use mathlib.Core.Logic.{⊎-elim}
 use Prim.Native.Nat.{ℕ, zero, suc, _+_, _-_, _*_, _≤_, _<_}
 use native.Mathlib.Nat.{zero-add, zero-mul, suc-add, mul-le-mul-right, suc-mul, eq-or-lt-of-le}
-use native.Mathlib.Numerals.{add-one}
 use native.Mathlib.Omega.{arith}
-use borrow.Rule.Slice.PartMut.{putMid, midOf, postOf, take-put, drop-put, same-len-mid, mid-len}
+use borrow.Rule.Slice.PartMut.{putMid, postOf, take-put, drop-put, same-len-mid}
 use lib.ListN.{length, take, drop, length-append, length-drop}
 use lib.Seq.{slice, take-nil, drop-nil, take-take, drop-drop, take-at, drop-at, length-take-le, take-add, take-all}
 use Rattle.laws.specs.Laws.{Told}

@@ -1,7 +1,7 @@
 // Passes over a line and over the rows of a whole picture, by doubling: what both kinds of samples share. The laws are in proofs/.
 
 ghost use mathlib.Core.Path.{_≡_};
-ghost use Prim.Native.Nat.{_+_, _-_, min};
+ghost use Prim.Native.Nat.{_-_, min};
 
 // a less b, or 0.
 pub fn less(a: usize, b: usize) -> usize

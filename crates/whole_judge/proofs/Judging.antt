@@ -1,17 +1,16 @@
 -- Which rule decides, and what holds where none is broken; and with that what a call has promised.
 use mathlib.Core.Path.{_≡_, refl, sym, ap, _∙_}
 use mathlib.Core.Logic.{_≢_}
-use mathlib.Core.Bool.{true, false, not}
+use mathlib.Core.Bool.{not}
 use mathlib.Core.List.{List, [], _∷_}
 use Prim.Native.Nat.{ℕ, _*_, _/_, _%_, _≤_, _<_}
 use native.Mathlib.Omega.{arith}
 use borrow.Author.Tests.{eqb-true, ltb-false, eq-eqb, ne-eqb, lt-ltb, le-ltb, not-false}
 use lib.Dec.{eqb, ltb}
 use lib.ListN.{length}
-use Rattle.morph.specs.Numbers.{given, firstOf}
+use Rattle.morph.specs.Numbers.{given}
 use Rattle.morph.specs.Picture.{Stage}
-use Rattle.morph.proofs.Lists.{split}
-use Rattle.morph.proofs.Numbers.{first-one, first-skip, first-zero, given-zero, skip, found}
+use Rattle.morph.proofs.Numbers.{first-zero, given-zero, skip, found}
 use Rattle.sample.specs.Samples.{Samples, firstBad}
 use Rattle.plan_record.specs.Numbers.{sizeNumber}
 use Rattle.plan_record.proofs.Numbers.{size-accepted}

@@ -1,10 +1,10 @@
 -- A stage of a plan applied to a whole picture, and then a plan, stage by stage: what is left of it, applied to what there is, is the whole of it applied to what there was.
 use mathlib.Core.Path.{_≡_, refl, sym, ap, _∙_}
-use mathlib.Core.List.{List, [], _∷_, map, flatten}
+use mathlib.Core.List.{List, _∷_, map, flatten}
 use Prim.Native.Nat.{ℕ, suc, _+_, _*_, _≤_, _<_}
 use native.Mathlib.Numerals.{add-one}
 use native.Mathlib.Omega.{arith}
-use lib.ListN.{length, take, drop, getD, length-take, drop-of-length-le}
+use lib.ListN.{length, drop, getD, length-take, drop-of-length-le}
 use lib.Seq.{drop-cons, getD-take}
 use Rattle.morph.specs.Lists.{Each}
 use Rattle.morph.specs.Order.{Order, orderOf, backOf, aheadOf}

@@ -1,9 +1,8 @@
 -- The rows before y are filtered, and the others are as they were.
-use mathlib.Core.Path.{_≡_, refl, sym, _∙_}
-use Prim.Native.Nat.{_-_, _≤_}
+use mathlib.Core.Path.{refl}
+use Prim.Native.Nat.{_-_}
 use native.Mathlib.Omega.{arith}
-use borrow.Author.Needs.{needs}
-use lib.ListN.{length, length-take, length-drop}
+use lib.ListN.{length-take, length-drop}
 use Rattle.morph.specs.Order.{orderOf}
 use Rattle.morph.specs.Grey.{grey}
 use Rattle.passes.specs.Flat.{UsedUpTo}

@@ -41,8 +41,14 @@ loop-less c = omega (arith, c .before .before .before .before .before .before .b
 loop-again : tie.Need-loop-again Inv-loop μ-loop
 loop-again c =
     let l = c .before .before .before .before .before .before .before .before .before .loop in
-    let k = orderOf (c .before .before .before .before .before .before .before .before .before .before .before .before .args .kind) grey in
-    (c .before .before .before .a .given ∙ l .inv .0, c .before .t .given ∙ l .inv .1, omega (arith, c .before .before .before .before .before .before .before .smaller .ensures), line-ahead k _ _ (greater-picks k) _ (any-each k (c .before .before .before .before .before .before .before .before .before .before .before .before .args .a .now)) (l .r) _ (c .before .before .before .before .before .before .before .before .before .before .before .before .args .far) _ _ (c .before .before .before .before .before .before .before .smaller .ensures) (l .inv .3) (c .before .before .before .before .turn-ahead .ensures))
+    let start = c .before .before .before .before .before .before .before .before .before .before .before .before in
+    let k = orderOf (start .args .kind) grey in
+    let s = c .before .before .before .before .before .before .before .smaller in (
+      c .before .before .before .a .given ∙ l .inv .0,
+      c .before .t .given ∙ l .inv .1,
+      omega (arith, s .ensures),
+      line-ahead k _ _ (greater-picks k) _ (any-each k (start .args .a .now)) (l .r) (s .result) (start .args .far) _ _ (s .ensures) (l .inv .3) (c .before .before .before .before .turn-ahead .ensures),
+    )
 
 same-length : tie.Need-same-length Inv-loop μ-loop
 same-length c = c .before .loop .inv .0

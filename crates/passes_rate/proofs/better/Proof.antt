@@ -1,5 +1,4 @@
 -- Each arm is the comparison that its kind names.
-use borrow.Author.Tests.{le-leb, lt-leb}
 use borrow.Author.Needs.{needs}
 use Rattle.passes_rate.proofs.better.Statement.{statement}
 use Rattle.passes_rate.proofs.better.Tie as tie

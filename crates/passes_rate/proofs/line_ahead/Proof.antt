@@ -6,10 +6,7 @@ use borrow.Author.Needs.{needs}
 use lib.ListN.{length}
 use Rattle.morph.specs.Order.{orderOf}
 use Rattle.morph.specs.Rate.{rate}
-use Rattle.laws.specs.Laws.{Taken}
-use Rattle.passes.specs.Inner.{pickRate}
 use Rattle.passes.proofs.Rate.{rate-picks}
-use lib.Ieee.{nan}
 use Rattle.passes.specs.Inner.{held, Reached}
 use Rattle.passes.proofs.Reach.{reach-start, line-ahead}
 use Rattle.passes_rate.proofs.line_ahead.Statement.{statement}
@@ -45,8 +42,14 @@ loop-less c = omega (arith, c .before .before .before .before .before .before .b
 loop-again : tie.Need-loop-again Inv-loop μ-loop
 loop-again c =
     let l = c .before .before .before .before .before .before .before .before .before .loop in
-    let k = orderOf (c .before .before .before .before .before .before .before .before .before .before .before .before .args .kind) rate in
-    (c .before .before .before .a .given ∙ l .inv .0, c .before .t .given ∙ l .inv .1, omega (arith, c .before .before .before .before .before .before .before .smaller .ensures), line-ahead k _ _ (rate-picks (c .before .before .before .before .before .before .before .before .before .before .before .before .args .kind)) _ (c .before .before .before .before .before .before .before .before .before .before .before .before .pre .2) (l .r) _ (c .before .before .before .before .before .before .before .before .before .before .before .before .args .far) _ _ (c .before .before .before .before .before .before .before .smaller .ensures) (l .inv .3) (c .before .before .before .before .turn-ahead .ensures))
+    let start = c .before .before .before .before .before .before .before .before .before .before .before .before in
+    let k = orderOf (start .args .kind) rate in
+    let s = c .before .before .before .before .before .before .before .smaller in (
+      c .before .before .before .a .given ∙ l .inv .0,
+      c .before .t .given ∙ l .inv .1,
+      omega (arith, s .ensures),
+      line-ahead k _ _ (rate-picks (start .args .kind)) _ (start .pre .2) (l .r) (s .result) (start .args .far) _ _ (s .ensures) (l .inv .3) (c .before .before .before .before .turn-ahead .ensures),
+    )
 
 same-length : tie.Need-same-length Inv-loop μ-loop
 same-length c = c .before .loop .inv .0

@@ -1,17 +1,12 @@
 -- The places so far hold the better of the two, and those from here on are as they were.
-use mathlib.Core.Path.{refl, sym, _∙_}
+use mathlib.Core.Path.{sym, _∙_}
 use Prim.Native.Nat.{_-_, _≤_, _<_}
 use native.Mathlib.Omega.{arith}
 use borrow.Author.Needs.{needs}
 use lib.ListN.{length}
 use Rattle.morph.specs.declared.Kind.the-variants.{Erosion}
-use Rattle.morph.specs.Order.{orderOf}
-use Rattle.morph.specs.Rate.{rate}
-use Rattle.laws.specs.Laws.{Taken}
 use Rattle.passes.specs.Inner.{pickRate}
-use Rattle.passes.proofs.Rate.{rate-picks}
 use lib.Ieee.{nan}
-use Rattle.morph.specs.Line.{greater}
 use Rattle.morph.proofs.Lists.{length-tabulate, getD-tabulate}
 use Rattle.sample.proofs.Rows.{Filling, fill-start, fill-next, fill-end}
 use Rattle.passes.specs.Inner.{pairs}

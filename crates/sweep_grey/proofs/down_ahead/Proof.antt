@@ -1,13 +1,10 @@
 -- After t ticks every row has reached as far as its level says, and after the last all the way.
-use mathlib.Core.Path.{_≡_, refl, sym, _∙_}
-use mathlib.Core.List.{List}
-use Prim.Native.Nat.{ℕ, _-_, _≤_}
+use mathlib.Core.Path.{_≡_, refl, _∙_}
+use Prim.Native.Nat.{_-_, _≤_}
 use native.Mathlib.Omega.{arith}
-use borrow.Author.Needs.{needs}
 use lib.ListN.{length}
 use Rattle.morph.specs.Order.{orderOf}
 use Rattle.morph.specs.Grey.{grey}
-use Rattle.passes.specs.Inner.{Reached}
 use Rattle.sweep.specs.Inner.{levelOf, Swept}
 use Rattle.passes.proofs.Reach.{any-each}
 use Rattle.sweep.proofs.Sweep.{sweep-start, sweep-end, sweep-again}

@@ -1,10 +1,9 @@
 -- The rows before row z have taken theirs.
-use mathlib.Core.Path.{_≡_, refl, _∙_}
-use mathlib.Core.Logic.{inl, inr}
-use Prim.Native.Nat.{_-_, _*_, min}
+use mathlib.Core.Path.{_≡_, _∙_}
+use mathlib.Core.Logic.{inr}
+use Prim.Native.Nat.{_-_, min}
 use native.Mathlib.Omega.{arith}
 use borrow.Author.Needs.{needs}
-use lib.ListN.{length}
 use Rattle.morph.specs.Order.{orderOf}
 use Rattle.morph.specs.Grey.{grey}
 use Rattle.morph.specs.Line.{greater}

@@ -1,9 +1,8 @@
 -- The rows from row z on have taken theirs.
-use mathlib.Core.Path.{_≡_, refl, _∙_}
-use Prim.Native.Nat.{_-_, _*_}
+use mathlib.Core.Path.{refl, _∙_}
+use Prim.Native.Nat.{_-_}
 use native.Mathlib.Omega.{arith}
 use borrow.Author.Needs.{needs}
-use lib.ListN.{length}
 use Rattle.morph.specs.Order.{orderOf}
 use Rattle.morph.specs.Grey.{grey}
 use Rattle.morph.specs.Line.{greater}

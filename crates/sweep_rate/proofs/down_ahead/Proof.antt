@@ -1,17 +1,10 @@
 -- After t ticks every row has reached as far as its level says, and after the last all the way.
-use mathlib.Core.Path.{_≡_, refl, sym, _∙_}
-use mathlib.Core.List.{List}
-use Prim.Native.Nat.{ℕ, _-_, _≤_}
+use mathlib.Core.Path.{_≡_, refl, _∙_}
+use Prim.Native.Nat.{_-_, _≤_}
 use native.Mathlib.Omega.{arith}
-use borrow.Author.Needs.{needs}
 use lib.ListN.{length}
 use Rattle.morph.specs.Order.{orderOf}
 use Rattle.morph.specs.Rate.{rate}
-use Rattle.laws.specs.Laws.{Taken}
-use Rattle.passes.specs.Inner.{pickRate}
-use Rattle.passes.proofs.Rate.{rate-picks}
-use lib.Ieee.{nan}
-use Rattle.passes.specs.Inner.{Reached}
 use Rattle.sweep.specs.Inner.{levelOf, Swept}
 use Rattle.sweep.proofs.Sweep.{sweep-start, sweep-end, sweep-again}
 use Rattle.sweep_rate.proofs.down_ahead.Statement.{statement}

@@ -1,11 +1,10 @@
 -- The rows before row z have taken theirs.
-use mathlib.Core.Path.{_≡_, refl, _∙_}
-use mathlib.Core.Logic.{inl, inr}
-use Prim.Native.Nat.{_-_, _*_, min}
+use mathlib.Core.Path.{_≡_, _∙_}
+use mathlib.Core.Logic.{inr}
+use Prim.Native.Nat.{_-_, min}
 use native.Mathlib.Omega.{arith}
 use borrow.Author.Needs.{needs}
 use lib.Ieee.{nan}
-use lib.ListN.{length}
 use Rattle.passes.specs.Inner.{pickRate}
 use Rattle.sweep.proofs.Over.{rows-lie, row-fits}
 use Rattle.sweep.proofs.Back.{Fronting, front-start, front-next, front-end}

@@ -1,10 +1,9 @@
 -- The rows from row z on have taken theirs.
-use mathlib.Core.Path.{_≡_, refl, _∙_}
-use Prim.Native.Nat.{_-_, _*_}
+use mathlib.Core.Path.{refl, _∙_}
+use Prim.Native.Nat.{_-_}
 use native.Mathlib.Omega.{arith}
 use borrow.Author.Needs.{needs}
 use lib.Ieee.{nan}
-use lib.ListN.{length}
 use Rattle.passes.specs.Inner.{pickRate}
 use Rattle.sweep.proofs.Over.{blocks-lie, row-fits}
 use Rattle.sweep.proofs.Back.{Lowering, lower-start, lower-next, lower-end}

@@ -9,7 +9,6 @@ use Rattle.morph.specs.Rate.{rate}
 use Rattle.laws.specs.Laws.{Taken}
 use Rattle.passes.specs.Inner.{pickRate}
 use Rattle.passes.proofs.Rate.{rate-picks}
-use lib.Ieee.{nan}
 use Rattle.sweep.proofs.Sweep.{Ticking, ticking-first, ticking-next, ticking-last}
 use Rattle.sweep_rate.proofs.tick.Statement.{statement}
 use Rattle.sweep_rate.proofs.tick.Tie as tie

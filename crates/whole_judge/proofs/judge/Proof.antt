@@ -1,5 +1,5 @@
 -- Rule by rule, in their order.
-use mathlib.Core.Path.{refl, sym, _∙_}
+use mathlib.Core.Path.{sym, _∙_}
 use native.Mathlib.Omega.{arith}
 use Rattle.plan_record.proofs.Numbers.{size-accepted}
 use Rattle.plan_record.proofs.Laws.{mul-most}

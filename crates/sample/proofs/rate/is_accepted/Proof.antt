@@ -1,9 +1,8 @@
 -- The pattern tells the negative zero.
-use mathlib.Core.Path.{_≡_, sym, ap, _∙_, subst}
+use mathlib.Core.Path.{sym, ap, _∙_, subst}
 use mathlib.Core.Bool.{Bool, not, _&&_}
 use Prim.Native.Nat.{ℕ}
 use lib.Dec.{T, eqb}
-use lib.Ieee.{binary32, toBits}
 use lib.Ieee.Scale.{finite}
 use borrow.Author.Needs.{needs}
 use Rattle.sample.proofs.Fields.{bits-negative}
