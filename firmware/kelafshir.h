@@ -4,7 +4,7 @@
  * `rt staticlib firmware` proves them all and writes target/staticlib/libfirmware.a for x86-64 Linux; link that. None keeps
  * anything between calls or takes memory but of the stack, a job about 90 KB and the others a little, so calls may run
  * side by side. Of the C library they may need memcpy and memset. Floats are compared in the float environment that a C
- * program starts with: one that has the processor take subnormal numbers for zeros gets zeros for them.
+ * program starts with: one that has the processor take subnormal numbers for zeros may get zeros for them.
  */
 #ifndef KELAFSHIR_H
 #define KELAFSHIR_H
@@ -42,7 +42,7 @@ enum kelafshir_number {
     KELAFSHIR_SIZE = 4,             /* a width, a row count or a line's length is 0 or too large */
     KELAFSHIR_SAMPLE_KIND = 5,      /* the sample kind is not grey or float, or not the state's */
     KELAFSHIR_MEMORY = 6,           /* too few queue cells, column records, bytes of output or places of a row are lent */
-    KELAFSHIR_ROW_LENGTH = 7,       /* a row is not as long as the width, two rows differ, or a picture is not its rows */
+    KELAFSHIR_ROW_LENGTH = 7,       /* a row is not as long as the width, two rows differ, or a picture is not width x rows */
     KELAFSHIR_NOT_FINITE = 8,       /* a pixel is not finite */
     KELAFSHIR_ALL_READ = 9,         /* a row or pixel is offered when all have been read */
     KELAFSHIR_NO_DRAIN = 10,        /* a drain is asked before all are read, or after the last output */

@@ -1,5 +1,5 @@
 #!/usr/bin/env python3
-"""Holds the filters of whole pictures, from C, to definition.py, to jobs in memory and to the program: every byte that a call leaves.
+"""Holds the filters of whole pictures, from C, to definition.py, to jobs in memory and to the program: every byte that a call tells.
 
     python3 tests/whole.py COUNT SEED COMMAND..
     python3 tests/whole.py --self

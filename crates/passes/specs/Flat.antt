@@ -16,7 +16,7 @@ module _ {A : Type 0} where
   unfoldable pub flatRows : ℕ → ℕ → List A → Picture A
   flatRows W H xs = tabulate H (flatRow W xs)
 
--- a lent row of which W places at most were written to: it is as long as it was, and what lies past them is as it was
+-- a lent row of which at most the first W places were written to: it is as long as it was, and what lies past them is as it was
 pub record UsedUpTo {A : Type 0} (W : ℕ) (row row′ : List A) : Type 0 where
   pub long : length row′ ≡ length row
   pub past : drop W row′ ≡ drop W row

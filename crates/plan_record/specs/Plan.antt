@@ -135,6 +135,7 @@ planRead count bytes = readingOf (planNumber count bytes) (planOf (stagesFrom co
 
 -- ---- a plan from stages that stand apart, five numbers each
 
+-- the stages that they say
 unfoldable pub stagesGiven : List (List ℕ) → List Stage
 stagesGiven stages = tabulate (length stages) (λ i. stageFrom (getD stages i []) 0)
 
@@ -142,6 +143,7 @@ stagesGiven stages = tabulate (length stages) (λ i. stageFrom (getD stages i []
 unfoldable pub givenNumber : List (List ℕ) → ℕ
 givenNumber stages = firstOf (countNumber (length stages) ∷ firstOf (tabulate (length stages) (λ i. stageNumber (getD stages i []) 0)) ∷ [])
 
+-- the answer, as of a plan read from a count and bytes
 unfoldable pub planGiven : List (List ℕ) → Reading
 planGiven stages = readingOf (givenNumber stages) (planOf (stagesGiven stages))
 

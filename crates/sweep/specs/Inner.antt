@@ -1,6 +1,6 @@
 -- Inner: only contracts of inner functions, and proofs, cite what stands here; no promise of a public call is made of it.
--- Down the columns. Ahead, in one sweep: each step of doubling follows the one before it some rows behind, so that a row is still near when it is needed again.
--- At tick t the step from reach r to reach r + s is made at the row whose window then ends at row t. Back, in one step where the rows reach far enough ahead.
+-- Down the columns. Ahead, in one sweep, which comes to one row more with every tick: a row that is r + s rows behind it, and reaches r ahead, takes the row s rows on and reaches r + s. All steps of doubling go on at once, each at its own distance,
+-- and the rows that they need are still in the cache. Then back, in one step where the rows reach far enough ahead.
 use mathlib.Core.Path.{_≡_}
 use mathlib.Core.Bool.{cond}
 use mathlib.Core.List.{List}
@@ -12,7 +12,7 @@ use Rattle.morph.specs.Lists.{Each}
 use Rattle.morph.specs.Order.{Order}
 use Rattle.passes.specs.Inner.{Near, Greatest}
 
--- the row at `at` takes the better of itself and the row at `from`, and all else stays
+-- the part of W places at `at` takes the better of itself and of the part at `from`, place by place, and all else stays
 pub record Over {A : Type 0} (blank : A) (pick : A → A → A) (W at from : ℕ) (l l′ : List A) : Type 0 where
   pub long : length l′ ≡ length l
   pub there : (x : ℕ) → x < W → getD l′ (at + x) blank ≡ pick (getD l (at + x) blank) (getD l (from + x) blank)
@@ -20,7 +20,7 @@ pub record Over {A : Type 0} (blank : A) (pick : A → A → A) (W at from : ℕ
 
 -- ---- ahead
 
--- how far a row reaches, m ticks after the sweep came to it
+-- how far ahead a row reaches that the sweep is m rows past
 unfoldable pub levelOf : ℕ → ℕ → ℕ
 levelOf far zero = 0
 levelOf far (suc m) = cond (eqb (suc m) (levelOf far m + min (levelOf far m + 1) (far - levelOf far m))) (suc m) (levelOf far m)

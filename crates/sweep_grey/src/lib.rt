@@ -76,7 +76,7 @@ fn tick(kind: Kind, far: usize, width: usize, rows: usize, t: usize, picture: &m
     }
 }
 
-// The sweep: each place has the best of itself and of those below it.
+// The sweep: each place has the best of itself and of the `far` places below it.
 pub fn down_ahead(kind: Kind, far: usize, width: usize, rows: usize, picture: &mut [u8])
     requires { ⌜ (length (now picture) ≡ rows * width) × (far ≤ 255) × (rows ≤ 65535) ⌝ }
     ensures { λ _. ⌜ Reached (orderOf kind grey) width 0 far (now (picture .entry)) (now (picture .exit)) ⌝ }

@@ -1,4 +1,4 @@
-// Down the columns of a whole picture of floats, as they are read: finite, and no negative zero, in place: ahead in one sweep, and then back.
+// Down the columns of a whole picture of floats that are finite and no negative zeros, in place: ahead in one sweep, and then back.
 
 ghost use mathlib.Core.Path.{_≡_};
 ghost use mathlib.Core.Logic.{_⊎_};
@@ -78,7 +78,7 @@ fn tick(kind: Kind, far: usize, width: usize, rows: usize, t: usize, picture: &m
     }
 }
 
-// The sweep: each place has the best of itself and of those below it.
+// The sweep: each place has the best of itself and of the `far` places below it.
 pub fn down_ahead(kind: Kind, far: usize, width: usize, rows: usize, picture: &mut [f32])
     requires { ⌜ (length (now picture) ≡ rows * width) × (far ≤ 255) × (rows ≤ 65535) × Each Taken (now picture) ⌝ }
     ensures { λ _. ⌜ Reached (orderOf kind rate) width 0 far (now (picture .entry)) (now (picture .exit)) ⌝ }

@@ -1,4 +1,4 @@
--- The two ways to filter agree: a call on a whole picture leaves the rows that come out of a run of the picture filter, of the same plan over the same pixels.
+-- The two ways to filter agree: a call on a whole picture leaves the rows that come out of a finished run of the picture filter, of the same plan over the same pixels.
 use mathlib.Core.Path.{_≡_, sym, ap, _∙_}
 use mathlib.Core.List.{List, map, flatten}
 use mathlib.Core.Option.{Option}

@@ -15,7 +15,7 @@ use Rattle.whole_judge.specs.declared.Filtered.{Filtered}
 
 -- ---- the numbers
 
--- `plan` is the plan's own number, of a record (1; stage by stage 3) or of numbers (1; stage by stage 2, 3). Behind it come 4 for the size; 7, "a row is not as long as the width", of all rows at once:
+-- `plan` is the plan's own number, of a record (1; stage by stage 3) or of numbers (1; stage by stage 2, 3). Behind it come 4 for the size; 7, ".. row is not as long as the width", of all rows at once:
 -- the picture has not `rows` times `width` pixels; and 6, "lent .. memory has fewer .. than needed": the lent row is shorter than the width.
 unfoldable pub lentJudged : ℕ → ℕ → ℕ → ℕ → ℕ → ℕ
 lentJudged plan width rows pixels places = firstOf (plan ∷ sizeNumber width rows ∷ given 7 (not (eqb pixels (rows * width))) ∷ given 6 (ltb places width) ∷ [])

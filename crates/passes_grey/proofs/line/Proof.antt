@@ -32,7 +32,7 @@ returns c =
     let a = start .args in
     let k = orderOf (a .kind) grey in
     c .before .before .copy .ensures
-    ∙ (rw (c .before .before .before .before .before .if1 .taken) at (line-made k Any (told-of grey Any grey-told (a .kind)) (a .behind) (a .before) (a .a .now) _ _ (any-each k (a .a .now)) (c .before .before .before .before .before .before .before .before .before .before .before .before .before .before .before .before .before .line-ahead .ensures) (c .before .before .before .before .before .before .before .before .before .before .line-back .ensures)))
+    ∙ (rw (c .before .before .before .before .before .if1 .taken) at (line-made k Any (told-of grey Any grey-told (a .kind)) (a .back) (a .ahead) (a .a .now) _ _ (any-each k (a .a .now)) (c .before .before .before .before .before .before .before .before .before .before .before .before .before .before .before .before .before .line-ahead .ensures) (c .before .before .before .before .before .before .before .before .before .before .line-back .ensures)))
 
 same-length-3 : tie.Need-same-length-3
 same-length-3 c = search needs
@@ -45,7 +45,7 @@ returns-2 c =
     let start = c .before .before .before .before .before .before .before .before .before .before .before .before .before .before .before .before .before in
     let a = start .args in
     let k = orderOf (a .kind) grey in
-    rw (c .if1 .left) at (line-made k Any (told-of grey Any grey-told (a .kind)) (a .behind) (a .before) (a .a .now) _ _ (any-each k (a .a .now)) (c .before .before .before .before .before .before .before .before .before .before .before .before .line-ahead .ensures) (c .before .before .before .before .before .line-back .ensures))
+    rw (c .if1 .left) at (line-made k Any (told-of grey Any grey-told (a .kind)) (a .back) (a .ahead) (a .a .now) _ _ (any-each k (a .a .now)) (c .before .before .before .before .before .before .before .before .before .before .before .before .line-ahead .ensures) (c .before .before .before .before .before .line-back .ensures))
 
 pub line-spec : {M : Type 1} → statement M
 line-spec =

@@ -14,7 +14,6 @@ use Rattle.whole_judge.proofs.Plan.{changes}
 use borrow.Author.Needs.{needs}
 use Rattle.whole_grey.proofs.apply.Statement.{statement}
 use Rattle.whole_grey.proofs.apply.Tie as tie
-use Rattle.whole_judge.proofs.judge.Reads as judge-reads′
 
 judge-requires : tie.Need-judge-requires
 judge-requires c κs = search needs
