@@ -33,8 +33,7 @@ static struct task {
     int is_float;
     size_t width, rows, extent;
     void *picture, *out, *row, *values, *forward, *backward;
-    uint16_t *positions;
-    uint8_t *starts, *lengths;
+    uint8_t *positions, *starts, *lengths;
 } task;
 
 static size_t sample_size(void) { return task.is_float ? sizeof(float) : 1; }
@@ -336,8 +335,8 @@ static void all_memory(void)
     task.width = MOST_WIDTH;
     for (size_t i = 0; i < 5; i++) {
         task.extent = windows[i] / 2;
-        size_t cell = sample_size() + sizeof(uint16_t), row = task.width * sample_size();
-        size_t queues = cells() * cell + 2 * task.width + 2 * 63 * cell + row;
+        size_t cell = sample_size() + 1, place = sample_size() + sizeof(uint16_t), row = task.width * sample_size();
+        size_t queues = cells() * cell + 2 * task.width + 2 * 63 * place + row;
         printf("memory\t%s\t%zu\t%zu\tqueue, proved or in C\t%zu\n", samples[task.is_float], task.width, windows[i], queues);
         size_t longest = padded(MOST_ROWS) * 64 > padded(task.width) ? padded(MOST_ROWS) * 64 : padded(task.width);
         size_t lines = 2 * longest * sample_size(), whole = row * MOST_ROWS;
@@ -357,7 +356,7 @@ int main(int count, char **words)
     task.out = malloc(most_bytes);
     task.row = malloc(MOST_WIDTH * sizeof(float));
     task.values = calloc(most_cells, sizeof(float));
-    task.positions = calloc(most_cells, sizeof(uint16_t));
+    task.positions = calloc(most_cells, 1);
     task.starts = calloc(MOST_WIDTH, 1);
     task.lengths = calloc(MOST_WIDTH, 1);
     task.forward = malloc(padded(MOST_WIDTH) * 64 * sizeof(float));

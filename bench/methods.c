@@ -51,6 +51,9 @@ ALWAYS int rate_read(float *picture, size_t count)
     return 1;
 }
 
+/* What a cell keeps of a row's number. */
+ALWAYS uint8_t remainder_of(size_t step) { return (uint8_t)(step % 128); }
+
 ALWAYS size_t smaller(size_t a, size_t b) { return a < b ? a : b; }
 
 #define VALUE uint8_t

@@ -8,9 +8,9 @@ enum { EROSION = 0, DILATION = 1 };
 
 #define METHODS(name, value)                                                                                                   \
     size_t name##_queue_row(int kind, size_t left, size_t right, size_t up, size_t down, size_t width, size_t rows, size_t step, \
-                            const value *row, value *out, value *values, uint16_t *positions, uint8_t *starts, uint8_t *lengths); \
+                            const value *row, value *out, value *values, uint8_t *positions, uint8_t *starts, uint8_t *lengths);  \
     size_t name##_queue_stage(int kind, size_t left, size_t right, size_t up, size_t down, size_t width, size_t rows,          \
-                              const value *picture, value *out, value *values, uint16_t *positions, uint8_t *starts,           \
+                              const value *picture, value *out, value *values, uint8_t *positions, uint8_t *starts,            \
                               uint8_t *lengths);                                                                               \
     void name##_herk_stage(int kind, size_t left, size_t right, size_t up, size_t down, size_t width, size_t rows,             \
                            const value *picture, value *out, value *forward, value *backward);                                 \

@@ -3,12 +3,12 @@
  * A slice passes as a pointer to its address and length. All are weak: what is not there is null, and is not measured.
  *
  *     fn grey_stage(kind: u8, left: u8, right: u8, up: u8, down: u8, width: usize, rows: usize, picture: &[u8],
- *                   out: &mut [u8], values: &mut [u8], positions: &mut [u16], starts: &mut [u8], lengths: &mut [u8])
+ *                   out: &mut [u8], values: &mut [u8], positions: &mut [u8], starts: &mut [u8], lengths: &mut [u8])
  * filters a whole picture, row by row, by one stage, and answers the comparisons made. rate_stage is the same for f32 in
  * picture, out and values.
  *
  *     fn grey_row(kind: u8, left: u8, right: u8, up: u8, down: u8, width: usize, rows: usize, step: usize, row: &[u8],
- *                 out: &mut [u8], values: &mut [u8], positions: &mut [u16], starts: &mut [u8], lengths: &mut [u8])
+ *                 out: &mut [u8], values: &mut [u8], positions: &mut [u8], starts: &mut [u8], lengths: &mut [u8])
  * is one step that reads a row; the memory holds what the steps before it left, and zeros before the first.
  *
  *     fn grey_whole(kind: u8, left: u8, right: u8, up: u8, down: u8, width: usize, rows: usize, picture: &mut [u8],

@@ -1,7 +1,8 @@
 /* The queue method in C, for the sample type VALUE; NAME(x) makes its names. Included once for each sample kind.
  *
  * The same method and the same memory as the proved code: across first with a queue of 63 places, then down with a queue
- * in each column, whose cells lie together; a step pops, ages and pushes, in that order, and counts its comparisons.
+ * in each column, whose cells lie together; a step pops, ages and pushes, in that order, and counts its comparisons. A
+ * column's cell keeps the remainder of its row's number by 128 in a byte; a place of the row's queue a 16-bit position.
  * Nothing is checked here but what a step must look at anyway: pixels that are not finite.
  */
 
@@ -46,22 +47,23 @@ ALWAYS size_t NAME(across)(int kind, size_t behind, size_t ahead, VALUE *row, si
 
 /* Each column reads its value of the row; answers the comparisons made. */
 ALWAYS size_t NAME(columns)(int kind, size_t places, const VALUE *row, size_t width, size_t step, VALUE *values,
-                                   uint16_t *positions, uint8_t *starts, uint8_t *lengths)
+                                   uint8_t *positions, uint8_t *starts, uint8_t *lengths)
 {
     size_t comparisons = 0;
+    uint8_t kept = remainder_of(step), leaves = remainder_of(step + 128 - places);
     for (size_t x = 0; x < width; x++, values += places, positions += places) {
         size_t start = starts[x], length = lengths[x], back = start + length;
         back = back == 0 ? places - 1 : back > places ? back - places - 1 : back - 1;
         size_t stay = NAME(popped)(kind, values, places, length, &back, row[x]);
         comparisons += length - stay + (stay > 0);
         length = stay;
-        if (length > 0 && positions[start] + places <= step) {
+        if (length > 0 && positions[start] == leaves) {
             start = start + 1 == places ? 0 : start + 1;
             length--;
         }
         back = back + 1 == places ? 0 : back + 1;
         values[back] = row[x];
-        positions[back] = (uint16_t)step;
+        positions[back] = kept;
         starts[x] = (uint8_t)start;
         lengths[x] = (uint8_t)(length + 1);
     }
@@ -69,10 +71,11 @@ ALWAYS size_t NAME(columns)(int kind, size_t places, const VALUE *row, size_t wi
 }
 
 /* A step of the columns that reads nothing. */
-ALWAYS void NAME(drained)(size_t places, size_t width, size_t step, const uint16_t *positions, uint8_t *starts, uint8_t *lengths)
+ALWAYS void NAME(drained)(size_t places, size_t width, size_t step, const uint8_t *positions, uint8_t *starts, uint8_t *lengths)
 {
+    uint8_t leaves = remainder_of(step + 128 - places);
     for (size_t x = 0; x < width; x++, positions += places)
-        if (lengths[x] > 0 && positions[starts[x]] + places <= step) {
+        if (lengths[x] > 0 && positions[starts[x]] == leaves) {
             starts[x] = (uint8_t)(starts[x] + 1u == places ? 0 : starts[x] + 1u);
             lengths[x]--;
         }
@@ -80,7 +83,7 @@ ALWAYS void NAME(drained)(size_t places, size_t width, size_t step, const uint16
 
 /* One step of a stage: its comparisons. The output row is written where one is due. */
 size_t NAME(queue_row)(int kind, size_t left, size_t right, size_t up, size_t down, size_t width, size_t rows, size_t step,
-                       const VALUE *row, VALUE *out, VALUE *values, uint16_t *positions, uint8_t *starts, uint8_t *lengths)
+                       const VALUE *row, VALUE *out, VALUE *values, uint8_t *positions, uint8_t *starts, uint8_t *lengths)
 {
     size_t places = up + down + 1, ahead = kind == EROSION ? down : up, comparisons = 0;
     VALUE work[4096];
@@ -102,7 +105,7 @@ size_t NAME(queue_row)(int kind, size_t left, size_t right, size_t up, size_t do
 
 /* A stage over a whole picture, row by row: its comparisons. */
 size_t NAME(queue_stage)(int kind, size_t left, size_t right, size_t up, size_t down, size_t width, size_t rows,
-                         const VALUE *picture, VALUE *out, VALUE *values, uint16_t *positions, uint8_t *starts, uint8_t *lengths)
+                         const VALUE *picture, VALUE *out, VALUE *values, uint8_t *positions, uint8_t *starts, uint8_t *lengths)
 {
     size_t ahead = kind == EROSION ? down : up, comparisons = 0;
     for (size_t x = 0; x < width; x++) starts[x] = lengths[x] = 0;

@@ -44,15 +44,16 @@ enum kelafshir_number {
     KELAFSHIR_MEMORY = 6,           /* too few queue cells, column records, bytes of output or places of a row are lent */
     KELAFSHIR_ROW_LENGTH = 7,       /* a row is not as long as the width, two rows differ, or a picture is not width x rows */
     KELAFSHIR_NOT_FINITE = 8,       /* a pixel is not finite */
-    KELAFSHIR_ALL_READ = 9,         /* a row or pixel is offered when all have been read */
-    KELAFSHIR_NO_DRAIN = 10,        /* a drain is asked before all are read, or after the last output */
+    KELAFSHIR_ALL_READ = 9,         /* a row or pixel is offered when all have been read, or a stop is said twice or in a fixed run */
+    KELAFSHIR_NO_DRAIN = 10,        /* a drain is asked before all are read or the stop is said, or after the last output */
     KELAFSHIR_NOT_THERE = 11,       /* a read-out or a view names what is not there */
     KELAFSHIR_STATE = 12,           /* the state breaks its rules */
     KELAFSHIR_ENDS_EARLY = 13,      /* a job ends early */
     KELAFSHIR_BYTES_AFTER = 14,     /* a job has bytes after its last row */
     KELAFSHIR_CELLS = 15,           /* a job needs over 4,096 cells */
     KELAFSHIR_NEGATIVE = 16,        /* a residue pixel would be negative */
-    KELAFSHIR_FILTER_ORDER = 17     /* the filter order is 0 or over 4 */
+    KELAFSHIR_FILTER_ORDER = 17,    /* the filter order is 0 or over 4 */
+    KELAFSHIR_LAST_NUMBER = 28      /* a row of an open run is past the last number, 4,294,967,295 */
 };
 
 /* Filters one row of grey bytes. Pixels off the row take no part.

@@ -39,7 +39,7 @@ module _ {A : Type 0} (K : Samples A) (W : ℕ) where
       let F = filterOf (K .order) s in
       let m : min t (length p + belowOf s) ≡ t = omega arith in
       let n : min t (length q + belowOf s) ≡ t = omega arith in (
-        λ x l. h .0 x l ∙ ap (columnQueue F x p) m ∙ column-prefix F x p t ∙ ap (λ r. columnQueue F x r t) e ∙ sym (column-prefix F x q t) ∙ ap (columnQueue F x q) (sym n),
+        λ x l. rw n ((rw m at (h .0 x l)) ∙ column-prefix F x p t ∙ ap (λ r. columnQueue F x r t) e ∙ sym (column-prefix F x q t)),
         holds-prefix ss (applyStage F p) (applyStage F q) (t - belowOf s) (behind (cellsOf W s) W M) (rw stage-length (omega arith)) (rw stage-length (omega arith)) (stage-rests s p q t e) (h .1),
       )
 

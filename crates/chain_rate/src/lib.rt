@@ -29,12 +29,12 @@ fn run_front(
     rows: usize,
     t: usize,
     values: &mut [f32],
-    positions: &mut [u16],
+    positions: &mut [u8],
     starts: &mut [u8],
     lengths: &mut [u8],
     row: &mut [f32],
 ) -> Front
-    requires { ⌜ Begins stage (length (now row)) (memory (now values) (now positions) (now starts) (now lengths)) × (rows ≤ 65535) ⌝ }
+    requires { ⌜ Begins stage (length (now row)) (memory (now values) (now positions) (now starts) (now lengths)) × (rows ≤ 4294967297) ⌝ }
     ensures { λ r. ⌜ Fronted rates stage rows t (memory (now (values .entry)) (now (positions .entry)) (now (starts .entry)) (now (lengths .entry))) (now (row .entry)) (memory (now (values .exit)) (now (positions .exit)) (now (starts .exit)) (now (lengths .exit))) (now (row .exit)) (r .comparisons) × (r .cells ≡ cellsOf (length (now (row .entry))) stage) × (r .ahead ≡ belowOf stage) × Leaves (length (now (row .entry))) (r .cells) (r .comparisons) (length (now (values .exit))) (length (now (positions .exit))) (length (now (starts .exit))) (length (now (lengths .exit))) ⌝ }
 {
     let width = row.len();
@@ -63,12 +63,12 @@ pub fn run(
     rows: usize,
     t: usize,
     values: &mut [f32],
-    positions: &mut [u16],
+    positions: &mut [u8],
     starts: &mut [u8],
     lengths: &mut [u8],
     row: &mut [f32],
 ) -> Ran
-    requires { ⌜ Ready (after i plan) (length (now row)) (memory (now values) (now positions) (now starts) (now lengths)) × (rows ≤ 65535) × (i ≤ plan .count) × (plan .count ≤ 16) ⌝ }
+    requires { ⌜ Ready (after i plan) (length (now row)) (memory (now values) (now positions) (now starts) (now lengths)) × (rows ≤ 4294967297) × (i ≤ plan .count) × (plan .count ≤ 16) ⌝ }
     ensures { λ r. ⌜ PlanStep rates (after i plan) rows t (memory (now (values .entry)) (now (positions .entry)) (now (starts .entry)) (now (lengths .entry))) (now (row .entry)) (memory (now (values .exit)) (now (positions .exit)) (now (starts .exit)) (now (lengths .exit))) (now (row .exit)) (r .comparisons) (r .due) ⌝ }
 {
     let count = plan.count;

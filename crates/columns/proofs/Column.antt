@@ -1,26 +1,27 @@
 -- A step of one column, beside which the others stay, and what stands in a column; over any kind of samples.
-use mathlib.Core.Path.{_≡_, refl, sym, _∙_}
-use mathlib.Core.List.{List}
+use mathlib.Core.Path.{_≡_, refl, sym, ap, _∙_}
+use mathlib.Core.List.{List, [], _∷_, map}
 use mathlib.Core.Logic.{_≢_}
-use Prim.Native.Nat.{ℕ, _+_, _-_, _*_, _≤_, _<_}
-use native.Mathlib.Nat.{sub-zero}
+use Prim.Native.Nat.{ℕ, zero, suc, _+_, _-_, _*_, _≤_, _<_}
 use native.Mathlib.Omega.{arith}
 use borrow.Author.Tests.{eqb-true, eqb-false}
 use borrow.Rule.Slice.PartMut.{putMid, midOf, same-len-mid}
 use lib.Dec.{eqb}
-use lib.ListN.{length, take, drop, getD, set, length-set, length-drop}
-use lib.Seq.{take-all, length-take-le, getD-set-same, getD-set-other}
+use lib.ListN.{length, drop, getD, set, length-set, length-drop}
+use lib.Seq.{length-take-le, getD-set-same, getD-set-other}
 use Rattle.morph.specs.declared.Kind.{Kind}
 use Rattle.morph.specs.Order.{Order}
 use Rattle.morph.specs.Line.{Entry, front}
+use Rattle.morph.specs.Cell.{rowOf, readAt}
 use Rattle.morph.specs.Ring.{wrap, entries}
-use Rattle.morph.specs.Inner.{roomed, stepCost}
+use Rattle.morph.specs.Inner.{cellsRoomed, stepCost}
 use Rattle.morph.proofs.Lists.{split}
 use Rattle.sample.specs.Samples.{Samples}
 use Rattle.queue.specs.Queue.{listed}
-use Rattle.queue.specs.Inner.{goesOf, Pushed}
+use Rattle.queue.specs.Inner.{cellGoesOf, CellPushed}
 use Rattle.queue.specs.declared.Ends.{Ends}
-use Rattle.queue.proofs.Laws.{listed-length, listed-at, listed-front, listed-stays}
+use Rattle.queue.proofs.Laws.{listed-length, listed-at, listed-front}
+use Rattle.queue.proofs.Cells.{listed-go}
 use Rattle.columns.specs.Inner.{Lent, only, Moved, reads, frontAt, EntryAt}
 use Rattle.memory.specs.Memory.{cellsAt, columnAt}
 use Rattle.columns.proofs.Cells.{column-in, cells-part, cells-place, Beside, put-here, put-beside}
@@ -44,13 +45,21 @@ module _ {A : Type 0} (K : Samples A) (P x : ℕ) (vs : List A) (ps ss ls : List
       (listed-front (K .order .blank) P (cellsAt P x vs) (cellsAt P x ps) O (getD ss x 0) (getD ls x 0) h (rw column-length at k)
       ∙ cells-place P x (getD ss x 0) vs (K .order .blank) h)
 
+map-place : {A B : Type 0} (f : A → B) (l : List A) (k : ℕ) (b : B) (a : A) → k < length l → getD (map f l) k b ≡ f (getD l k a)
+map-place f [] k b a h = absurd (omega arith)
+map-place f (e ∷ l) zero b a h = refl
+map-place f (e ∷ l) (suc k) b a h = map-place f l k b a (omega arith)
+
 -- place k of a queue is a place of the ring
-pub entry-column : {A : Type 0} (K : Samples A) (P x : ℕ) (vs : List A) (ps ss : List ℕ) (start k at : ℕ) (v : A) (p : ℕ)
-    → start ≡ getD ss x 0 → at ≡ wrap P (start + k) → at < P → v ≡ getD vs (x * P + at) (K .order .blank) → p ≡ getD ps (x * P + at) 0
-    → EntryAt K P vs ps ss x k v p
+pub entry-column : {A : Type 0} (K : Samples A) (P x : ℕ) (vs : List A) (ps ss : List ℕ) (start k at s : ℕ) (v : A) (p : ℕ)
+    → start ≡ getD ss x 0 → at ≡ wrap P (start + k) → at < P → v ≡ getD vs (x * P + at) (K .order .blank) → p ≡ rowOf s (getD ps (x * P + at) 0)
+    → EntryAt K P vs ps ss x k s v p
 unfolding columnAt
-entry-column K P x vs ps ss start k at v p e w h a b ls none i =
-    listed-at (K .order .blank) P (cellsAt P x vs) (cellsAt P x ps) (getD ss x 0) (getD ls x 0) k at none i (rw (← e, w))
+entry-column K P x vs ps ss start k at s v p e w h a b ls none i =
+    let q = entries (K .order .blank) P (getD ss x 0) (getD ls x 0) (cellsAt P x vs) (cellsAt P x ps) in
+    let d : Entry _ = record { value = K .order .blank; position = 0 } in
+    map-place (readAt s) q k none d (rw listed-length i)
+    ∙ ap (readAt s) (listed-at (K .order .blank) P (cellsAt P x vs) (cellsAt P x ps) (getD ss x 0) (getD ls x 0) k at d i (rw (← e, w)))
     ∙ rw (cells-place P x at vs (K .order .blank) h, cells-place P x at ps 0 h, a, b)
 
 -- ---- new cells and a new record for column x
@@ -101,23 +110,20 @@ module _ {A : Type 0} (K : Samples A) (P W t x lo k : ℕ) (vs : List A) (ps ss 
   part-cells xs = rw (at, all) (cells-part P x xs)
 
   -- what goes is dropped, and no cell changes
-  module _ (gone s n : ℕ) (g : gone ≡ goesOf P t count (getD (midOf lo k ps) start 0)) (u : s ≡ wrap P (start + gone)) (v : n ≡ count - gone) where
-    aged-here : entries (K .order .blank) P s n (cellsAt P x vs) (cellsAt P x ps) ≡ roomed P t (columnAt K P vs ps ss ls x)
+  module _ (gone s n : ℕ) (g : gone ≡ cellGoesOf P t count (getD (midOf lo k ps) start 0)) (u : s ≡ wrap P (start + gone)) (v : n ≡ count - gone) where
+    aged-here : entries (K .order .blank) P s n (cellsAt P x vs) (cellsAt P x ps) ≡ cellsRoomed P t (columnAt K P vs ps ss ls x)
     unfolding columnAt
     aged-here =
-        let q = entries (K .order .blank) P start count (cellsAt P x vs) (cellsAt P x ps) in
         let b = lent .sound .below x h in
         let d = lent .sound .fits x h in
-        let w : take count q ≡ q = take-all count q (rw listed-length (omega arith)) in
-        let m = listed-stays (K .order .blank) P (cellsAt P x vs) (cellsAt P x ps) P t start count 0 gone (omega arith) (omega arith) (omega arith) (omega arith) (omega arith) (rw (sub-zero, ← part-cells ps) g) in
-        rw (← e, ← f, u, v) (rw (sub-zero, w) at m)
+        rw (← e, ← f, u, v) (listed-go (K .order .blank) P (cellsAt P x vs) (cellsAt P x ps) t start count gone (omega arith) (omega arith) (rw (← part-cells ps) g))
 
-    pub column-aged : s < P → n ≤ P → Moved K P W (only x (roomed P t)) vs ps ss ls vs ps (set ss x s) (set ls x n)
-    column-aged below fits = one-moved P W x ps ss ls lent h s n K vs vs ps (roomed P t) refl refl (λ j m. refl) (λ j m. refl) below fits aged-here
+    pub column-aged : s < P → n ≤ P → Moved K P W (only x (cellsRoomed P t)) vs ps ss ls vs ps (set ss x s) (set ls x n)
+    column-aged below fits = one-moved P W x ps ss ls lent h s n K vs vs ps (cellsRoomed P t) refl refl (λ j m. refl) (λ j m. refl) below fits aged-here
 
   -- the cells are lent to the push and come back as ys and zs
   module _ (kind : Kind) (v : A) (ys : List A) (zs : List ℕ) (r : Ends) (same : length vs ≡ length ps)
-      (p : Pushed K kind t v (midOf lo k vs) (midOf lo k ps) start count ys zs r) where
+      (p : CellPushed K kind t v (midOf lo k vs) (midOf lo k ps) start count ys zs r) where
     inside : x * P + P ≤ length ps
     inside = column-in P W x (x * P) ps ss ls lent refl h .0
 

@@ -13,7 +13,7 @@ use lib.ListN.{length, getD, set, length-set}
 use Rattle.morph.specs.declared.Kind.{Kind}
 use Rattle.morph.specs.Lists.{tabulate, sumTo}
 use Rattle.morph.specs.Line.{Entry}
-use Rattle.morph.specs.Inner.{roomed, stepCost}
+use Rattle.morph.specs.Inner.{cellsRoomed, stepCost}
 use Rattle.morph.proofs.Lists.{split, length-tabulate, getD-tabulate}
 use Rattle.sample.specs.Samples.{Samples, greys, rates}
 use Rattle.sample.proofs.Rows.{Filling, fill-start, fill-next, fill-end}
@@ -110,21 +110,21 @@ module _ (P t : ℕ) (ps ss ls : List ℕ) where
     pub within : x ≤ length ss
     pub at : lo ≡ x * P
     pub lent : Lent P (length ss) ps ss′ ls′
-    pub grey : RecordsMoved greys P (length ss) (until x (λ _. roomed P t)) ps ss ls ss′ ls′
-    pub rate : RecordsMoved rates P (length ss) (until x (λ _. roomed P t)) ps ss ls ss′ ls′
+    pub grey : RecordsMoved greys P (length ss) (until x (λ _. cellsRoomed P t)) ps ss ls ss′ ls′
+    pub rate : RecordsMoved rates P (length ss) (until x (λ _. cellsRoomed P t)) ps ss ls ss′ ls′
 
   pub aging-first : Lent P (length ss) ps ss ls → Aging ss ls 0 0
   aging-first l = record {
     within = omega arith;
     at = sym (zero-mul P);
     lent = l;
-    grey = λ vs. moved-first greys P (length ss) (λ _. roomed P t) vs ps ss ls l;
-    rate = λ vs. moved-first rates P (length ss) (λ _. roomed P t) vs ps ss ls l;
+    grey = λ vs. moved-first greys P (length ss) (λ _. cellsRoomed P t) vs ps ss ls l;
+    rate = λ vs. moved-first rates P (length ss) (λ _. cellsRoomed P t) vs ps ss ls l;
   }
 
   module _ (ss′ ls′ : List ℕ) (lo x : ℕ) (g : Aging ss′ ls′ lo x) where
     pub aging-next : (ss″ ls″ : List ℕ) → x < length ss
-        → RecordsMoved greys P (length ss′) (only x (roomed P t)) ps ss′ ls′ ss″ ls″ × RecordsMoved rates P (length ss′) (only x (roomed P t)) ps ss′ ls′ ss″ ls″
+        → RecordsMoved greys P (length ss′) (only x (cellsRoomed P t)) ps ss′ ls′ ss″ ls″ × RecordsMoved rates P (length ss′) (only x (cellsRoomed P t)) ps ss′ ls′ ss″ ls″
         → Aging ss″ ls″ (lo + P) (x + 1)
     aging-next ss″ ls″ h m =
         let (a, b) = rw (g .lent .starts-long) at m in
@@ -132,15 +132,15 @@ module _ (P t : ℕ) (ps ss ls : List ℕ) where
           within = omega arith;
           at = next-cells P x lo (g .at);
           lent = a [] .lent;
-          grey = λ vs. moved-next greys P (length ss) (λ _. roomed P t) vs ps ss ls x vs ps ss′ ls′ (g .grey vs) vs ps ss″ ls″ (a vs);
-          rate = λ vs. moved-next rates P (length ss) (λ _. roomed P t) vs ps ss ls x vs ps ss′ ls′ (g .rate vs) vs ps ss″ ls″ (b vs);
+          grey = λ vs. moved-next greys P (length ss) (λ _. cellsRoomed P t) vs ps ss ls x vs ps ss′ ls′ (g .grey vs) vs ps ss″ ls″ (a vs);
+          rate = λ vs. moved-next rates P (length ss) (λ _. cellsRoomed P t) vs ps ss ls x vs ps ss′ ls′ (g .rate vs) vs ps ss″ ls″ (b vs);
         }
 
     pub aging-last : length ss ≤ x
-        → RecordsMoved greys P (length ss) (λ _. roomed P t) ps ss ls ss′ ls′ × RecordsMoved rates P (length ss) (λ _. roomed P t) ps ss ls ss′ ls′
+        → RecordsMoved greys P (length ss) (λ _. cellsRoomed P t) ps ss ls ss′ ls′ × RecordsMoved rates P (length ss) (λ _. cellsRoomed P t) ps ss ls ss′ ls′
     aging-last h = (
-      λ vs. moved-last greys P (length ss) (λ _. roomed P t) vs ps ss ls x vs ps ss′ ls′ (g .grey vs) h,
-      λ vs. moved-last rates P (length ss) (λ _. roomed P t) vs ps ss ls x vs ps ss′ ls′ (g .rate vs) h,
+      λ vs. moved-last greys P (length ss) (λ _. cellsRoomed P t) vs ps ss ls x vs ps ss′ ls′ (g .grey vs) h,
+      λ vs. moved-last rates P (length ss) (λ _. cellsRoomed P t) vs ps ss ls x vs ps ss′ ls′ (g .rate vs) h,
     )
 
 -- ---- the fronts go into a row

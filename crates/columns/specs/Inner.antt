@@ -2,14 +2,15 @@
 -- The columns of one stage in lent memory, as crate memory lays them out: what a step finds there and leaves. P are the places of a column, W the columns.
 use mathlib.Core.Path.{_≡_}
 use mathlib.Core.Bool.{cond}
-use mathlib.Core.List.{List}
+use mathlib.Core.List.{List, map}
 use Prim.Native.Nat.{ℕ, _+_, _*_, _≤_, _<_}
 use lib.Dec.{eqb}
 use lib.ListN.{length, getD}
 use Rattle.morph.specs.declared.Kind.{Kind}
 use Rattle.morph.specs.Lists.{sumTo}
 use Rattle.morph.specs.Line.{Entry}
-use Rattle.morph.specs.Inner.{stepped, stepCost}
+use Rattle.morph.specs.Cell.{readAt}
+use Rattle.morph.specs.Inner.{cellsStepped, stepCost}
 use Rattle.sample.specs.Samples.{Samples}
 use Rattle.memory.specs.Inner.{RecordsSound}
 use Rattle.memory.specs.Memory.{columnAt}
@@ -43,9 +44,9 @@ module _ {A : Type 0} (K : Samples A) where
   abbrev pub RecordsMoved : ℕ → ℕ → (ℕ → List (Entry A) → List (Entry A)) → List ℕ → List ℕ → List ℕ → List ℕ → List ℕ → Type 0
   RecordsMoved P W next positions starts lengths starts′ lengths′ = (values : List A) → Moved P W next values positions starts lengths values positions starts′ lengths′
 
-  -- a column's step t, which reads v
+  -- a column's step t, which reads v, on its cells as they stand
   abbrev pub reads : Kind → ℕ → ℕ → A → List (Entry A) → List (Entry A)
-  reads kind P t v = stepped (K .passes kind v) P t v
+  reads kind P t v = cellsStepped (K .passes kind v) P t v
 
   -- Every column has read its value of the row at step t, and r are the comparisons: the sum of those of "the columns' steps".
   pub record RowRead (kind : Kind) (P t : ℕ) (row values : List A) (positions starts lengths : List ℕ) (values′ : List A) (positions′ starts′ lengths′ : List ℕ) (r : ℕ) : Type 0 where
@@ -57,7 +58,7 @@ module _ {A : Type 0} (K : Samples A) where
   unfoldable pub frontAt : ℕ → List A → List ℕ → ℕ → A
   frontAt P values starts x = getD values (x * P + getD starts x 0) (K .order .blank)
 
-  -- v at position p is the entry at place k of column x's queue, if that has one there
-  abbrev pub EntryAt : ℕ → List A → List ℕ → List ℕ → ℕ → ℕ → A → ℕ → Type 0
-  EntryAt P values positions starts x k v p =
-      (lengths : List ℕ) (none : Entry A) → k < getD lengths x 0 → getD (columnAt K P values positions starts lengths x) k none ≡ record { value = v; position = p }
+  -- v at position p is the entry at place k of column x's queue, read after s steps, if it has one there
+  abbrev pub EntryAt : ℕ → List A → List ℕ → List ℕ → ℕ → ℕ → ℕ → A → ℕ → Type 0
+  EntryAt P values positions starts x k s v p =
+      (lengths : List ℕ) (none : Entry A) → k < getD lengths x 0 → getD (map (readAt s) (columnAt K P values positions starts lengths x)) k none ≡ record { value = v; position = p }

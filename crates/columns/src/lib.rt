@@ -7,7 +7,7 @@ ghost use Prim.Native.Nat.{_*_, _≤_, _<_};
 ghost use mathlib.Core.Bool.{_&&_};
 ghost use lib.Dec.{ltb, leb};
 ghost use lib.ListN.{length};
-ghost use Rattle.morph.specs.Inner.{roomed};
+ghost use Rattle.morph.specs.Inner.{cellsRoomed};
 ghost use Rattle.sample.specs.Samples.{greys, rates};
 ghost use Rattle.columns.specs.Inner.{Lent, only, RecordsMoved};
 ghost use Rattle.memory.specs.Memory.{soundRecords};
@@ -23,30 +23,30 @@ pub fn narrow(x: usize) -> u8
 // Column x, whose cells begin at lo, ages at step t; the others stay.
 fn drain_column(
     places: usize,
-    positions: &[u16],
+    positions: &[u8],
     starts: &mut [u8],
     lengths: &mut [u8],
     lo: usize,
     x: usize,
     t: usize,
 )
-    requires { ⌜ Lent places (length (now starts)) (now positions) (now starts) (now lengths) × (lo ≡ x * places) × (x < length (now starts)) ⌝ }
-    ensures { λ _. ⌜ RecordsMoved greys places (length (now (starts .entry))) (only x (roomed places t)) (now (positions .entry)) (now (starts .entry)) (now (lengths .entry)) (now (starts .exit)) (now (lengths .exit))
-        × RecordsMoved rates places (length (now (starts .entry))) (only x (roomed places t)) (now (positions .entry)) (now (starts .entry)) (now (lengths .entry)) (now (starts .exit)) (now (lengths .exit)) ⌝ }
+    requires { ⌜ Lent places (length (now starts)) (now positions) (now starts) (now lengths) × (lo ≡ x * places) × (x < length (now starts)) × (t ≤ 4294967800) ⌝ }
+    ensures { λ _. ⌜ RecordsMoved greys places (length (now (starts .entry))) (only x (cellsRoomed places t)) (now (positions .entry)) (now (starts .entry)) (now (lengths .entry)) (now (starts .exit)) (now (lengths .exit))
+        × RecordsMoved rates places (length (now (starts .entry))) (only x (cellsRoomed places t)) (now (positions .entry)) (now (starts .entry)) (now (lengths .entry)) (now (starts .exit)) (now (lengths .exit)) ⌝ }
 {
     let hi = lo + places;
     let start = morph::wide(starts[x]);
     let count = morph::wide(lengths[x]);
-    let gone = queue::goes(&positions[lo..hi], start, count, places, t);
+    let gone = queue::cell_goes(&positions[lo..hi], start, count, places, t);
     starts[x] = narrow(queue::slot(start, gone, places));
     lengths[x] = narrow(count - gone);
 }
 
 // Every column ages at step t.
-pub fn drain(places: usize, positions: &[u16], starts: &mut [u8], lengths: &mut [u8], t: usize)
-    requires { ⌜ Lent places (length (now starts)) (now positions) (now starts) (now lengths) ⌝ }
-    ensures { λ _. ⌜ RecordsMoved greys places (length (now (starts .entry))) (λ _. roomed places t) (now (positions .entry)) (now (starts .entry)) (now (lengths .entry)) (now (starts .exit)) (now (lengths .exit))
-        × RecordsMoved rates places (length (now (starts .entry))) (λ _. roomed places t) (now (positions .entry)) (now (starts .entry)) (now (lengths .entry)) (now (starts .exit)) (now (lengths .exit)) ⌝ }
+pub fn drain(places: usize, positions: &[u8], starts: &mut [u8], lengths: &mut [u8], t: usize)
+    requires { ⌜ Lent places (length (now starts)) (now positions) (now starts) (now lengths) × (t ≤ 4294967800) ⌝ }
+    ensures { λ _. ⌜ RecordsMoved greys places (length (now (starts .entry))) (λ _. cellsRoomed places t) (now (positions .entry)) (now (starts .entry)) (now (lengths .entry)) (now (starts .exit)) (now (lengths .exit))
+        × RecordsMoved rates places (length (now (starts .entry))) (λ _. cellsRoomed places t) (now (positions .entry)) (now (starts .entry)) (now (lengths .entry)) (now (starts .exit)) (now (lengths .exit)) ⌝ }
 {
     let mut lo = 0;
     let mut x = 0;

@@ -7,7 +7,7 @@ struct Rates {
     state: State,
     out: [f32; 3],
     values: [f32; 9],
-    positions: [u16; 9],
+    positions: [u8; 9],
     starts: [u8; 3],
     lengths: [u8; 3],
 }

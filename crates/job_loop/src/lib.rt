@@ -20,7 +20,7 @@ fn put_turn(
     came: &mut [f32],
     greys: &mut [u8],
     rates: &mut [f32],
-    positions: &mut [u16],
+    positions: &mut [u8],
     starts: &mut [u8],
     lengths: &mut [u8],
 ) -> Turned
@@ -53,7 +53,7 @@ pub fn go(
     came: &mut [f32],
     greys: &mut [u8],
     rates: &mut [f32],
-    positions: &mut [u16],
+    positions: &mut [u8],
     starts: &mut [u8],
     lengths: &mut [u8],
 ) -> usize

@@ -55,7 +55,7 @@ fn floats() -> [f32; 4096]
 }
 
 // The positions of 4,096 cells.
-fn positions() -> [u16; 4096]
+fn positions() -> [u8; 4096]
     ensures { λ r. ⌜ 4096 ≡ length r ⌝ }
 {
     [0; 4096]

@@ -5,4 +5,6 @@ pub mod Step
 pub mod Picture
 pub mod Plan
 pub mod Ring
+pub mod Cell
+pub mod Rests
 pub mod Numbers

@@ -89,7 +89,7 @@ module _ {A : Type 0} where
   each-take P (suc n) [] h = tt
   each-take P (suc n) (a ∷ l) h = (h .0, each-take P n l (h .1))
 
-  each-drop : (P : A → Type 0) (n : ℕ) (l : List A) → Each P l → Each P (drop n l)
+  pub each-drop : (P : A → Type 0) (n : ℕ) (l : List A) → Each P l → Each P (drop n l)
   each-drop P zero l h = h
   each-drop P (suc n) [] h = tt
   each-drop P (suc n) (a ∷ l) h = each-drop P n l (h .1)
@@ -207,6 +207,10 @@ module _ {A B : Type 0} where
       append-in (f c) (flatten (map f l)) a (⊎-elim (λ e. inl (subst (λ r. In a (f r)) e j)) (λ k. inr (joined-in f l b a k j)) i)
 
 -- ---- sums
+
+pub sumTo-same : (n : ℕ) (f g : ℕ → ℕ) → ((k : ℕ) → k < n → f k ≡ g k) → sumTo n f ≡ sumTo n g
+sumTo-same zero f g h = refl
+sumTo-same (suc n) f g h = cc (sumTo-same n f g (λ k l. h k (omega arith)), h n (omega arith))
 
 pub sumTo-add : (n : ℕ) (f g : ℕ → ℕ) → sumTo n (λ k. f k + g k) ≡ sumTo n f + sumTo n g
 sumTo-add zero f g = refl

@@ -3,7 +3,7 @@
 -- comes last. On the queue of a run this is the next queue of the line, and the count is document 01's (proofs/Step.antt).
 use mathlib.Core.Bool.{Bool, cond}
 use mathlib.Core.List.{List, [], _∷_, _++_}
-use Prim.Native.Nat.{ℕ, suc, _+_, _-_, min}
+use Prim.Native.Nat.{ℕ, suc, _+_, _-_, _%_, min}
 use lib.Dec.{leb, eqb}
 use lib.ListN.{length, take, drop}
 use Rattle.morph.specs.Line.{Entry, aged}
@@ -25,3 +25,17 @@ module _ {A : Type 0} where
   -- its comparisons
   unfoldable pub stepCost : (A → Bool) → List (Entry A) → ℕ
   stepCost f q = popped f q + min 1 (length q - popped f q)
+
+  -- ---- the same in lent cells, which keep the remainders of row numbers (specs/Cell.antt)
+
+  -- how many of the oldest go at step t: an entry leaves the window w steps after its own, so the oldest goes where it keeps the remainder of t - w
+  unfoldable pub cellsGo : ℕ → ℕ → List (Entry A) → ℕ
+  cellsGo w t [] = 0
+  cellsGo w t (e ∷ q) = cond (leb w (length (e ∷ q))) 1 (cond (eqb (e .position) ((t + 128 - w) % 128)) 1 0)
+
+  unfoldable pub cellsRoomed : ℕ → ℕ → List (Entry A) → List (Entry A)
+  cellsRoomed w t q = drop (cellsGo w t q) q
+
+  -- Read after the step these are `roomed` and `stepped` of the queue as it is read before it, where each entry is of the last w steps (proofs/Cell.antt).
+  unfoldable pub cellsStepped : (A → Bool) → ℕ → ℕ → A → List (Entry A) → List (Entry A)
+  cellsStepped f w t v q = cellsRoomed w t (take (length q - popped f q) q) ++ (record { value = v; position = t % 128 } ∷ [])

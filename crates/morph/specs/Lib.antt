@@ -7,5 +7,6 @@ pub mod Line
 pub mod Picture
 pub mod Plan
 pub mod Ring
+pub mod Cell
 pub mod Numbers
 pub mod Inner

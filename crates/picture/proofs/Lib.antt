@@ -1,4 +1,5 @@
 pub mod Reading
 pub mod Unique
 pub mod Runs
+pub mod OpenRuns
 pub mod Answers

@@ -1,7 +1,7 @@
 -- What a read-out shows where the state and the memory are in order. By which idea: 11 is all that is left to judge, and a stage that is not there has an empty queue.
 use mathlib.Core.Path.{_≡_, refl, ap, _∙_}
 use mathlib.Core.Bool.{Bool, true, false, cond, _||_}
-use mathlib.Core.List.{List, [], _∷_}
+use mathlib.Core.List.{List, [], _∷_, map}
 use Prim.Native.Nat.{ℕ, zero, suc, _≤_, _<_}
 use native.Mathlib.Omega.{arith}
 use borrow.Author.Tests.{leb-true, leb-false, le-leb, lt-leb}
@@ -14,17 +14,22 @@ use Rattle.plan_record.specs.declared.Stage.{Stage}
 use Rattle.morph.specs.Numbers.{given}
 use Rattle.plan_record.specs.Plan.{used, cellsOf}
 use Rattle.morph.proofs.Numbers.{first-one, first-skip}
-use Rattle.memory.specs.Memory.{Memory, behind, queueAt}
+use Rattle.morph.specs.Cell.{readAt}
+use Rattle.memory.specs.Memory.{Memory, behind, stageSteps, keptAt, queueAt}
 use Rattle.picture_state.specs.declared.State.{State}
-use Rattle.picture_state.specs.Numbers.{memoryJudged}
-use Rattle.picture_state.specs.ReadOut.{readOutNumber, Shows}
+use Rattle.picture_state.specs.Numbers.{heightOf, memoryJudged}
+use Rattle.picture_state.specs.ReadOut.{queueIn, readOutNumber, Shows}
 
 module _ {A : Type 0} (K : Samples A) where
-  queue-none : (ss : List Stage) (W : ℕ) (M : Memory A) (i x : ℕ) → length ss ≤ i → queueAt K ss W M i x ≡ []
+  kept-none : (ss : List Stage) (W : ℕ) (M : Memory A) (i x : ℕ) → length ss ≤ i → keptAt K ss W M i x ≡ []
+  unfolding keptAt
+  kept-none [] W M i x h = refl
+  kept-none (s ∷ ss) W M zero x h = absurd (omega arith)
+  kept-none (s ∷ ss) W M (suc i) x h = kept-none ss W (behind (cellsOf W s) W M) i x (omega arith)
+
+  queue-none : (S : State) (M : Memory A) (i x : ℕ) → length (used (S .plan)) ≤ i → queueIn K S M i x ≡ []
   unfolding queueAt
-  queue-none [] W M i x h = refl
-  queue-none (s ∷ ss) W M zero x h = absurd (omega arith)
-  queue-none (s ∷ ss) W M (suc i) x h = queue-none ss W (behind (cellsOf W s) W M) i x (omega arith)
+  queue-none S M i x h = ap (map (readAt (stageSteps (used (S .plan)) (heightOf S) (S .step) i))) (kept-none (used (S .plan)) (S .width) M i x h)
 
 -- an answer that is refused or found by one test
 told : {A : Type 0} (b : Bool) (n : ℕ) (s f : Shown A) → n ≡ given 11 b → ((n ≡ 0 → ⊥) → s ≡ refused n) → (n ≡ 0 → s ≡ f) → s ≡ cond b (refused 11) f
@@ -42,7 +47,7 @@ or-middle false c = refl
 
 module _ {A : Type 0} (K : Samples A) (kind : ℕ) (S : State) (M : Memory A) (stage column place : ℕ) where
   abbrev held : List (Entry A)
-  held = queueAt K (used (S .plan)) (S .width) M stage column
+  held = queueIn K S M stage column
 
   abbrev place-of : List (Entry A) → Shown A
   place-of q = found (getD q place (record { value = K .order .blank; position = 0 }))
@@ -62,7 +67,7 @@ module _ {A : Type 0} (K : Samples A) (kind : ℕ) (S : State) (M : Memory A) (s
       let t = told (lacks (S .plan .count) held) (readOutNumber K kind S M stage column place) answer (place-of held) (number-left z) (h .refusal) (h .accepted) in
       split (leb (length (used (S .plan))) stage)
       (λ a.
-      let d : held ≡ [] = queue-none K (used (S .plan)) (S .width) M stage column (leb-true n stage a) in
+      let d : held ≡ [] = queue-none K S M stage column (leb-true n stage a) in
       let l : leb (length held) place ≡ true = ap (λ (r : List (Entry A)). leb (length r) place) d ∙ le-leb 0 place (omega arith) in
       let b : lacks (S .plan .count) held ≡ true = rw l (or-last (leb (S .plan .count) stage) (leb (S .width) column)) in
       t ∙ rw (b, a))

@@ -1,22 +1,23 @@
 -- Whole runs, from the promises alone. By which idea: the start's memory holds what no step leaves, an accepted step keeps `Holds` and says what it tells, and a refused call changes nothing.
+-- What open runs share stands here too: `Begun`, `Told` and what follows from them are said of any ending.
 use mathlib.Core.Path.{_≡_, refl, sym, ap, _∙_, subst}
-use mathlib.Core.Bool.{true, false, not, _||_}
+use mathlib.Core.Bool.{true, false, not}
 use mathlib.Core.List.{List, [], _∷_, _++_, append-nil, map}
 use mathlib.Core.Option.{Option, none, some}
-use Prim.Native.Nat.{ℕ, zero, suc, _+_, _-_, _≤_, _<_, min}
+use Prim.Native.Nat.{ℕ, zero, suc, _+_, _-_, _*_, _≤_, _<_, min}
 use native.Mathlib.Nat.{zero-sub, mul-le-mul-right}
 use native.Mathlib.Numerals.{add-one}
 use native.Mathlib.Omega.{arith}
 use borrow.Author.Tests.{leb-true, leb-false, lt-ltb, le-ltb, le-leb, lt-leb}
-use lib.Dec.{eqb, leb}
+use lib.Dec.{leb}
 use lib.ListN.{length, getD, take, replicate, length-append, length-take, length-map, length-replicate}
 use lib.Seq.{take-suc, take-take, take-length, take-append-seam, getD-take, getD-append-seam}
 use lib.Ieee.{Float}
 use Rattle.morph.specs.Lists.{all, tabulate, sumTo, Each}
-use Rattle.morph.specs.Line.{outputAt}
+use Rattle.morph.specs.Line.{Shown, outputAt}
 use Rattle.morph.specs.Picture.{Picture, Wide, Stage as Filter, applyPlan, lookAhead, rowAt}
-use Rattle.morph.specs.Plan.{planCost}
-use Rattle.morph.proofs.Lists.{split, neither, length-tabulate, tabulate-ext, tabulate-snoc, each-append, each-getD, each-take, each-map, each-weaken}
+use Rattle.morph.specs.Plan.{planCost, stageBound}
+use Rattle.morph.proofs.Lists.{split, length-tabulate, tabulate-ext, tabulate-snoc, each-append, each-getD, each-take, each-map, each-weaken}
 use Rattle.morph.proofs.Picture.{plan-length, plan-each}
 use Rattle.morph.proofs.Plan.{plan-costs-bound}
 use Rattle.sample.specs.Samples.{Samples, rates}
@@ -24,23 +25,25 @@ use Rattle.sample.specs.Rate.{accepted}
 use Rattle.sample.proofs.Floats.{accepted-plus}
 use Rattle.plan_record.specs.declared.Plan.{Plan}
 use Rattle.morph.specs.Numbers.{given}
-use Rattle.plan_record.specs.Numbers.{sampleNumber, sizeNumber}
-use Rattle.plan_record.specs.Plan.{used, total, cellsOf, stagesOf, planOf, stagesFrom, recordNumber, cellsNeeded, recordsNeeded, planAhead}
+use Rattle.plan_record.specs.Plan.{used, stagesOf, planOf, stagesFrom, cellsNeeded, recordsNeeded, planAhead}
 use Rattle.plan_record.proofs.Laws.{used-plan}
 use Rattle.plan_record.proofs.Named.{look-ahead-plan}
-use Rattle.morph.proofs.Numbers.{first-skip, first-zero, given-zero}
+use Rattle.morph.proofs.Numbers.{first-skip, first-zero}
 use Rattle.memory.specs.Memory.{Memory, allSound, Whole, Holds}
 use Rattle.picture_state.specs.declared.State.{State}
-use Rattle.picture_state.specs.declared.Started.{Started}
+use Rattle.picture_state.specs.declared.Ending.{Ending}
+use Rattle.picture_state.specs.declared.Ending.the-variants.{Fixed}
 use Rattle.picture_state.specs.declared.Answer.{Answer}
-use Rattle.picture_state.specs.Numbers.{memoryNumber, startNumber, stateNumber, stateKindNumber, recordsNumber, sharedNumber, memoryJudged, offerNumber, rowNumber, drainJudged}
-use Rattle.picture_state.specs.Start.{firstState, PictureStart}
+use Rattle.picture_state.specs.Numbers.{heightOf, memoryNumber, stateNumber, stateKindNumber, recordsNumber, sharedNumber, memoryJudged, offerNumber, rowNumber, drainJudged}
+use Rattle.picture_state.specs.ReadOut.{Shows}
 use Rattle.picture_state.specs.Step.{RowSaid, row, notYet, rowSaidOf, rowSaidAt, nextState, Advanced}
-use Rattle.picture_state.proofs.Numbers.{memory-accepted, shared-accepted, shared-records, offer-all, drain-accepted, drain-all}
-use Rattle.picture_state.proofs.Starting.{start-accepted, start-fits, start-first, numbers-start, cleared-long}
+use Rattle.picture_state.proofs.Numbers.{memory-accepted, shared-accepted, shared-records, fixed-reads, closed-drains, offer-all, drain-accepted, drain-all}
 use Rattle.picture_state.proofs.ReadingOut.{queue-run}
-use Rattle.picture_state.proofs.Step.{judged-fit}
-use Rattle.picture.specs.Runs.{rowComparisons, cameWith, rowsOf, sumOf, stateAt, PictureRun, started, started-numbers, offered, drained, row-refused, drain-refused, rowSaidOver, queueOver, PictureRan}
+use Rattle.picture_start.specs.declared.Started.{Started}
+use Rattle.picture_start.specs.Start.{startNumber, stateFrom, firstState, PictureStart}
+use Rattle.picture_start.proofs.Starting.{Begins, begins-fixed, start-accepted, start-fits, start-first, numbers-start, cleared-long}
+use Rattle.picture_state.proofs.Step.{judged-fit, state-next}
+use Rattle.picture.specs.Runs.{rowComparisons, cameWith, rowsOf, sumOf, stateAt, PictureRun, started, started-numbers, offered, drained, row-refused, drain-refused, rowSaidOver, queueOver, shownOver, PictureRan}
 use Rattle.picture.proofs.Reading.{shows-queue}
 use Rattle.picture.proofs.Unique.{row-offered}
 
@@ -60,7 +63,7 @@ sum-table zero f = refl
 sum-table (suc n) f = omega (arith, sum-table n (λ k. f (suc k)), sumTo-front n f)
 
 module _ {B : Type 0} (l : List B) (b : B) where
-  long-more : length (l ++ (b ∷ [])) ≡ suc (length l)
+  pub long-more : length (l ++ (b ∷ [])) ≡ suc (length l)
   long-more = length-append l (b ∷ []) ∙ add-one (length l)
 
   -- a list that begins with l and then b
@@ -124,13 +127,7 @@ memory-zero : (plan : Plan) (width cells records : ℕ) → cellsNeeded plan wid
 unfolding memoryNumber
 memory-zero plan width cells records a b = rw (le-ltb cells (cellsNeeded plan width) a, le-ltb records (recordsNeeded plan width) b)
 
-state-next : (S : State) → stateNumber S ≡ 0 → S .step < S .rows + planAhead (S .plan) → stateNumber (nextState S) ≡ 0
-unfolding stateNumber
-state-next S e l =
-    let (a, _) = neither (not (eqb (recordNumber (S .plan)) 0) || not (eqb (sampleNumber (S .sample)) 0) || not (eqb (sizeNumber (S .width) (S .rows)) 0)) _ (given-zero 11 _ e) in
-    rw (a, le-ltb (S .rows + planAhead (S .plan)) (S .step + 1) (omega arith))
-
-state-zero : {A : Type 0} (kind : ℕ) (S : State) (M : Memory A) → memoryJudged kind S M ≡ 0 → stateNumber S ≡ 0
+pub state-zero : {A : Type 0} (kind : ℕ) (S : State) (M : Memory A) → memoryJudged kind S M ≡ 0 → stateNumber S ≡ 0
 unfolding sharedNumber
 state-zero kind S M z =
     first-zero (stateNumber S)
@@ -141,7 +138,7 @@ state-zero kind S M z =
     z .0
 
 -- the memory lent, where its parts are in order
-lent-zero : {A : Type 0} (kind : ℕ) (S : State) (M : Memory A) → stateNumber S ≡ 0 → S .sample ≡ kind
+pub lent-zero : {A : Type 0} (kind : ℕ) (S : State) (M : Memory A) → stateNumber S ≡ 0 → S .sample ≡ kind
     → cellsNeeded (S .plan) (S .width) ≤ length (M .values) → cellsNeeded (S .plan) (S .width) ≤ length (M .positions)
     → recordsNeeded (S .plan) (S .width) ≤ length (M .starts) → recordsNeeded (S .plan) (S .width) ≤ length (M .lengths)
     → allSound (S .width) (used (S .plan)) (M .starts) (M .lengths) ≡ true → memoryJudged kind S M ≡ 0
@@ -149,37 +146,63 @@ lent-zero kind S M a b v p s l e =
     sym (shared-records kind S (min (length (M .values)) (length (M .positions))) (min (length (M .starts)) (length (M .lengths))) (M .starts) (M .lengths) a b true
     (memory-zero (S .plan) (S .width) _ _ (omega arith) (omega arith)) (sym e))
 
-lent-next : {A : Type 0} (K : Samples A) (kind : ℕ) (S : State) (M : Memory A) (pixels out : List A) (M′ : Memory A) (out′ : List A) (answer : Answer) (S′ : State)
-    → memoryJudged kind S M ≡ 0 → S .step < S .rows + planAhead (S .plan) → Advanced K S M pixels out M′ out′ answer S′ → memoryJudged kind S′ M′ ≡ 0
-lent-next K kind S M pixels out M′ out′ answer S′ z l h =
+pub lent-next : {A : Type 0} (K : Samples A) (kind : ℕ) (S : State) (M : Memory A) (pixels out : List A) (M′ : Memory A) (out′ : List A) (answer : Answer) (S′ : State)
+    → memoryJudged kind S M ≡ 0 → S .step < heightOf S + planAhead (S .plan) → heightOf S ≤ 4294967296 → Advanced K S M pixels out M′ out′ answer S′ → memoryJudged kind S′ M′ ≡ 0
+lent-next K kind S M pixels out M′ out′ answer S′ z l low h =
     let f = judged-fit kind S M z in
     let g = shared-accepted kind S (min (length (M .values)) (length (M .positions))) (min (length (M .starts)) (length (M .lengths))) (M .starts) (M .lengths) z in
     rw (h .state)
-    (lent-zero kind (nextState S) M′ (state-next S (state-zero kind S M z) l) (g .sample) (omega (arith, f .values-lent, h .values-long)) (omega (arith, f .positions-lent, h .positions-long))
+    (lent-zero kind (nextState S) M′ (state-next S (state-zero kind S M z) l low) (g .sample) (omega (arith, f .values-lent, h .values-long)) (omega (arith, f .positions-lent, h .positions-long))
     (omega (arith, f .starts-lent, h .starts-long)) (omega (arith, f .lengths-lent, h .lengths-long)) (h .sound))
+
+-- a row that is in order but for its pixels, and these are accepted
+pub row-zero : {A : Type 0} (K : Samples A) (kind : ℕ) (S : State) (M : Memory A) (pixels out : List A)
+    → offerNumber kind S (length pixels) (length out) (length (M .values)) (length (M .positions)) (M .starts) (M .lengths) ≡ 0 → all (K .good) pixels ≡ true → rowNumber K kind S M pixels out ≡ 0
+unfolding rowNumber
+row-zero K kind S M pixels out z g =
+    first-skip (offerNumber kind S (length pixels) (length out) (length (M .values)) (length (M .positions)) (M .starts) (M .lengths)) (given 8 (not (all (K .good) pixels)) ∷ []) z ∙ rw g
 
 -- ---- a run
 
 module _ {A : Type 0} (K : Samples A) (kind : ℕ) (first : State) where
-  -- over a whole picture, the queues, the answers and the rows so far are document 01's
-  record Told (p : Picture A) (S : State) (M : Memory A) (said : List RowSaid) (came : List (Option (List A))) : Type 0 where
-    held : Holds K (used (S .plan)) (S .width) p (S .step) M
-    says : said ≡ tabulate (S .step) (rowSaidOver K kind first S p)
-    comes : came ≡ tabulate (S .step) (rowAt (stagesOf (K .order) (S .plan)) p)
+  -- over a picture, the queues, the answers and the rows so far are document 01's
+  pub record Told (p : Picture A) (S : State) (M : Memory A) (said : List RowSaid) (came : List (Option (List A))) : Type 0 where
+    pub held : Holds K (used (S .plan)) (S .width) p (S .step) M
+    pub says : said ≡ tabulate (S .step) (rowSaidOver K kind first S p)
+    pub comes : came ≡ tabulate (S .step) (rowAt (stagesOf (K .order) (S .plan)) p)
 
-  -- what holds after each call
-  record Going (S : State) (M : Memory A) (read : Picture A) (said : List RowSaid) (came : List (Option (List A))) : Type 0 where
-    kept : S ≡ stateAt first (S .step)
-    lent : memoryJudged kind S M ≡ 0
-    reads : length read ≡ min (S .step) (S .rows)
-    wide : Wide (S .width) read
-    good : Each (Each (λ a. K .good a ≡ true)) read
-    answers : length came ≡ S .step
-    told : (p : Picture A) → Whole K (S .width) (S .rows) p → take (length read) p ≡ read → Told p S M said came
+  comparisons-here : (S : State) (p : Picture A) (t : ℕ) → rowComparisons (rowSaidOver K kind first S p t) ≡ planCost (stagesOf (K .order) (S .plan)) (S .width) p t
+  comparisons-here S p t = split (leb (planAhead (S .plan)) t) (λ d. rw d) (λ d. rw d)
+
+  -- what follows from that
+  pub record Follows (p : Picture A) (S : State) (M : Memory A) (said : List RowSaid) (came : List (Option (List A))) : Type 0 where
+    pub counted : length said ≡ S .step
+    pub filtered : rowsOf came ≡ take (S .step - planAhead (S .plan)) (applyPlan (stagesOf (K .order) (S .plan)) p)
+    pub costs : map rowComparisons said ≡ tabulate (S .step) (planCost (stagesOf (K .order) (S .plan)) (S .width) p)
+    pub few : sumOf (map rowComparisons said) ≤ length (used (S .plan)) * stageBound (S .width) (length p)
+    pub shows : (stage column place : ℕ) (answer : Shown A) → Shows K kind S M stage column place answer → answer ≡ shownOver K kind first S p stage column place
+
+  -- .. where the picture has the state's width, and its rows as far as the steps go
+  module _ (p : Picture A) (S : State) (M : Memory A) (said : List RowSaid) (came : List (Option (List A))) (u : Told p S M said came) where
+    pub told-follows : Wide (S .width) p → S .step ≤ length p + planAhead (S .plan) → min (S .step) (heightOf S) ≡ min (S .step) (length p) → memoryJudged kind S M ≡ 0 → Follows p S M said came
+    told-follows wide b rows lent =
+        let Ss = stagesOf (K .order) (S .plan) in
+        let c : map rowComparisons said ≡ tabulate (S .step) (planCost Ss (S .width) p) =
+        ap (map rowComparisons) (u .says) ∙ map-table rowComparisons (S .step) (rowSaidOver K kind first S p) ∙ tabulate-ext (S .step) _ _ (λ k _. comparisons-here S p k) in
+        let a = look-ahead-plan (K .order) (S .plan) in
+        record {
+          counted = ap length (u .says) ∙ length-tabulate (S .step) (rowSaidOver K kind first S p);
+          filtered = ap rowsOf (u .comes) ∙ rows-told Ss p (S .step) (rw a b) ∙ ap (λ d. take (S .step - d) (applyPlan Ss p)) a;
+          costs = c;
+          few = let d = plan-costs-bound Ss (S .width) p wide (S .step) in rw (c, sum-table (S .step) (planCost Ss (S .width) p)) (rw (length-map (used (S .plan))) at d);
+          shows = λ stage column place answer h.
+              shows-queue K kind S M stage column place answer (queueOver K kind first S p stage column) lent h
+              (λ i x. queue-run K (S .width) column x (used (S .plan)) stage p (heightOf S) (S .step) M i rows (u .held));
+        }
 
   -- one step more
-  module _ (p : Picture A) (S : State) (M : Memory A) (whole : Whole K (S .width) (S .rows) p) (pixels out : List A) (M′ : Memory A) (out′ : List A) (answer : Answer) (S′ : State)
-      (h : Advanced K S M pixels out M′ out′ answer S′) (given : S .step < S .rows → pixels ≡ getD p (S .step) []) (within : S .step < S .rows + planAhead (S .plan))
+  module _ (p : Picture A) (S : State) (M : Memory A) (whole : Whole K (S .width) (heightOf S) p) (pixels out : List A) (M′ : Memory A) (out′ : List A) (answer : Answer) (S′ : State)
+      (h : Advanced K S M pixels out M′ out′ answer S′) (given : S .step < heightOf S → pixels ≡ getD p (S .step) []) (within : S .step < heightOf S + planAhead (S .plan))
       (held : Holds K (used (S .plan)) (S .width) p (S .step) M) where
     abbrev t : ℕ
     t = S .step
@@ -214,7 +237,7 @@ module _ {A : Type 0} (K : Samples A) (kind : ℕ) (first : State) where
         (λ d. ap (λ s. cameWith s out′) (said-row d) ∙ ap some (z (leb-true D t d)) ∙ sym (row-here (leb-true D t d)))
         (λ d. ap (λ s. cameWith s out′) (said-wait d) ∙ sym (row-none (leb-false D t d)))
 
-    told-next : (said : List RowSaid) (came : List (Option (List A))) → Told p S M said came → Told p S′ M′ (said ++ (rowSaidOf answer ∷ [])) (came ++ (cameWith (rowSaidOf answer) out′ ∷ []))
+    pub told-next : (said : List RowSaid) (came : List (Option (List A))) → Told p S M said came → Told p S′ M′ (said ++ (rowSaidOf answer ∷ [])) (came ++ (cameWith (rowSaidOf answer) out′ ∷ []))
     told-next said came r =
         subst (λ T. Told p T M′ (said ++ (rowSaidOf answer ∷ [])) (came ++ (cameWith (rowSaidOf answer) out′ ∷ []))) (sym (h .state))
         (record {
@@ -222,6 +245,58 @@ module _ {A : Type 0} (K : Samples A) (kind : ℕ) (first : State) where
           says = table-more t (rowSaidOver K kind first S p) said (rowSaidOf answer) (r .says) said-here;
           comes = table-more t (rowAt Ss p) came (cameWith (rowSaidOf answer) out′) (r .comes) came-here;
         })
+
+  -- a start that is taken, of any ending: no step is done, the memory is in order, and it holds over every picture what no step leaves
+  pub record Begun (ending : Ending) (rows : ℕ) (M : Memory A) : Type 0 where
+    pub ends : first .ending ≡ ending
+    pub counts : first .rows ≡ rows
+    pub none : first .step ≡ 0
+    pub lent : memoryJudged kind first M ≡ 0
+    pub told : (p : Picture A) → Told p first M [] []
+
+  pub begun : {M : Memory A} (plan : Plan) (width : ℕ) (ending : Ending) (rows judged : ℕ) → Begins ending rows judged → (cells : ℕ) (starts lengths : List ℕ) (r : Started) → plan .count ≤ length (plan .stages)
+      → PictureStart (startNumber plan kind width judged cells (min (length starts) (length lengths))) (stateFrom plan kind width ending rows) (recordsNeeded plan width) starts lengths (M .starts) (M .lengths) r
+      → r .number ≡ 0 → r .state ≡ first → cellsNeeded (first .plan) (first .width) ≤ length (M .values) → cellsNeeded (first .plan) (first .width) ≤ length (M .positions) → Begun ending rows M
+  begun {M} plan width ending rows judged begins cells starts lengths r long h z q v p =
+      let n = sym (h .told) ∙ z in
+      let f = start-first K plan kind width ending rows judged begins cells starts lengths (M .starts) (M .lengths) r long h z in
+      let (s, a, b) = h .accepted n in
+      let (_, _, _, m) = start-accepted plan kind width judged cells (min (length starts) (length lengths)) n in
+      let (_, d) = memory-accepted plan width cells (min (length starts) (length lengths)) m in
+      let o = stateFrom plan kind width ending rows in
+      let e : first ≡ stateFrom plan kind width ending rows = sym q ∙ s in
+      let u : used (o .plan) ≡ used plan = used-plan (used plan) in
+      let l : length (M .starts) ≡ length starts = ap length a ∙ cleared-long (recordsNeeded plan width) starts (omega arith) in
+      let k : length (M .lengths) ≡ length lengths = ap length b ∙ cleared-long (recordsNeeded plan width) lengths (omega arith) in
+      let x : recordsNeeded (o .plan) width ≤ recordsNeeded plan width = mul-le-mul-right width (rw length-take (omega arith)) in
+      let y : cellsNeeded (first .plan) (first .width) ≡ cellsNeeded (o .plan) width = ap (λ (T : State). cellsNeeded (T .plan) (T .width)) e in
+      let w : memoryJudged kind o M ≡ 0 =
+      lent-zero kind o M (ap stateNumber (sym s) ∙ f .judged) refl (omega arith) (omega arith) (omega arith) (omega arith) (ap (λ ss. allSound width ss (M .starts) (M .lengths)) u ∙ f .sound) in
+      let i : first .step ≡ 0 = ap (λ (T : State). T .step) e in
+      record {
+        ends = ap (λ (T : State). T .ending) e;
+        counts = ap (λ (T : State). T .rows) e;
+        none = i;
+        lent = ap (λ (T : State). memoryJudged kind T M) e ∙ w;
+        told = λ p. record {
+          held = subst (λ (T : State). Holds K (used (T .plan)) (T .width) p (T .step) M) (sym e) (subst (λ ss. Holds K ss width p 0 M) (sym u) (f .holds (M .values) (M .positions) p));
+          says = rw i;
+          comes = rw i;
+        };
+      }
+
+  -- ---- runs over a picture whose rows are counted
+
+  -- what holds after each call
+  record Going (S : State) (M : Memory A) (read : Picture A) (said : List RowSaid) (came : List (Option (List A))) : Type 0 where
+    kept : S ≡ stateAt first (S .step)
+    fixed : S .ending ≡ Fixed
+    lent : memoryJudged kind S M ≡ 0
+    reads : length read ≡ min (S .step) (S .rows)
+    wide : Wide (S .width) read
+    good : Each (Each (λ a. K .good a ≡ true)) read
+    answers : length came ≡ S .step
+    told : (p : Picture A) → Whole K (S .width) (S .rows) p → take (length read) p ≡ read → Told p S M said came
 
   kept-next : (S S′ : State) → S ≡ stateAt first (S .step) → S′ ≡ nextState S → S′ ≡ stateAt first (S′ .step)
   kept-next S S′ e f = f ∙ ap nextState e ∙ ap (stateAt first) (sym (ap (λ (T : State). T .step) f))
@@ -234,14 +309,15 @@ module _ {A : Type 0} (K : Samples A) (kind : ℕ) (first : State) where
     going-row pixels n h =
         let o = row-offered K kind S M pixels out n in
         let new = map (K .taken) pixels in
-        let w : S .step < S .rows = o .within in
+        let w : S .step < S .rows = rw (r .fixed) at (o .within) in
         let l : length read ≡ S .step = omega (arith, r .reads) in
         let q : S′ .step ≡ S .step + 1 = ap (λ (T : State). T .step) (h .state) in
         let k : S′ .rows ≡ S .rows = ap (λ (T : State). T .rows) (h .state) in
         let v : S′ .width ≡ S .width = ap (λ (T : State). T .width) (h .state) in
         record {
           kept = kept-next S S′ (r .kept) (h .state);
-          lent = lent-next K kind S M new out M′ out′ answer S′ (r .lent) (omega arith) h;
+          fixed = ap (λ (T : State). T .ending) (h .state) ∙ r .fixed;
+          lent = lent-next K kind S M new out M′ out′ answer S′ (r .lent) (omega (arith, o .within)) (o .low) h;
           reads = long-more read new ∙ omega arith;
           wide = rw v (each-append _ read (new ∷ []) (r .wide) (o .wide, tt));
           good = each-append _ read (new ∷ []) (r .good) (o .good, tt);
@@ -250,18 +326,20 @@ module _ {A : Type 0} (K : Samples A) (kind : ℕ) (first : State) where
               let (a, b) = begins-more read new p [] e in
               let whole₀ : Whole K (S .width) (S .rows) p = rw (v, k) at whole in
               let u = r .told p whole₀ a in
-              told-next p S M whole₀ new out M′ out′ answer S′ h (λ _. b ∙ ap (λ i. getD p i []) l) (omega arith) (u .held) said came u;
+              told-next p S M (rw (r .fixed) whole₀) new out M′ out′ answer S′ h (λ _. b ∙ ap (λ i. getD p i []) l) (omega (arith, o .within)) (u .held) said came u;
         }
 
     going-drain : drainJudged kind S M out ≡ 0 → Advanced K S M [] out M′ out′ answer S′ → Going S′ M′ read (said ++ (rowSaidOf answer ∷ [])) (came ++ (cameWith (rowSaidOf answer) out′ ∷ []))
     going-drain n h =
-        let (_, w, y, _) = drain-accepted kind S (length (M .values)) (length (M .positions)) (M .starts) (M .lengths) (length out) n in
+        let d = drain-accepted kind S (length (M .values)) (length (M .positions)) (M .starts) (M .lengths) (length out) n in
+        let w : S .rows ≤ S .step = rw (r .fixed) at (d .read) in
         let q : S′ .step ≡ S .step + 1 = ap (λ (T : State). T .step) (h .state) in
         let k : S′ .rows ≡ S .rows = ap (λ (T : State). T .rows) (h .state) in
         let v : S′ .width ≡ S .width = ap (λ (T : State). T .width) (h .state) in
         record {
           kept = kept-next S S′ (r .kept) (h .state);
-          lent = lent-next K kind S M [] out M′ out′ answer S′ (r .lent) y h;
+          fixed = ap (λ (T : State). T .ending) (h .state) ∙ r .fixed;
+          lent = lent-next K kind S M [] out M′ out′ answer S′ (r .lent) (d .within) (d .low) h;
           reads = r .reads ∙ omega arith;
           wide = rw v (r .wide);
           good = r .good;
@@ -269,7 +347,7 @@ module _ {A : Type 0} (K : Samples A) (kind : ℕ) (first : State) where
           told = λ p whole e.
               let whole₀ : Whole K (S .width) (S .rows) p = rw (v, k) at whole in
               let u = r .told p whole₀ e in
-              told-next p S M whole₀ [] out M′ out′ answer S′ h (λ b. absurd (omega arith)) y (u .held) said came u;
+              told-next p S M (rw (r .fixed) whole₀) [] out M′ out′ answer S′ h (λ (b : S .step < heightOf S). absurd (omega (arith, d .read))) (d .within) (u .held) said came u;
         }
 
     -- a refused call changes nothing
@@ -277,56 +355,35 @@ module _ {A : Type 0} (K : Samples A) (kind : ℕ) (first : State) where
     going-same e f = subst (λ T. Going T M′ read said came) (sym e) (subst (λ N. Going S N read said came) (sym f) r)
 
   -- the start
-  going-first : {M : Memory A} (plan : Plan) (width rows cells : ℕ) (starts lengths : List ℕ) (r : Started) → plan .count ≤ length (plan .stages)
-      → PictureStart (startNumber plan kind width rows cells (min (length starts) (length lengths))) (firstState plan kind width rows) (recordsNeeded plan width) starts lengths (M .starts) (M .lengths) r
-      → r .number ≡ 0 → r .state ≡ first → cellsNeeded (first .plan) (first .width) ≤ length (M .values) → cellsNeeded (first .plan) (first .width) ≤ length (M .positions) → Going first M [] [] []
-  going-first {M} plan width rows cells starts lengths r long h z q v p =
-      let n = sym (h .told) ∙ z in
-      let f = start-first K plan kind width rows cells starts lengths (M .starts) (M .lengths) r long h z in
-      let (s, a, b) = h .accepted n in
-      let (_, _, _, m) = start-accepted plan kind width rows cells (min (length starts) (length lengths)) n in
-      let (_, d) = memory-accepted plan width cells (min (length starts) (length lengths)) m in
-      let e : first ≡ firstState plan kind width rows = sym q ∙ s in
-      let o = firstState plan kind width rows in
-      let u : used (o .plan) ≡ used plan = used-plan (used plan) in
-      let l : length (M .starts) ≡ length starts = ap length a ∙ cleared-long (recordsNeeded plan width) starts (omega arith) in
-      let k : length (M .lengths) ≡ length lengths = ap length b ∙ cleared-long (recordsNeeded plan width) lengths (omega arith) in
-      let x : recordsNeeded (o .plan) width ≤ recordsNeeded plan width = mul-le-mul-right width (rw length-take (omega arith)) in
-      let y : cellsNeeded (first .plan) (first .width) ≡ cellsNeeded (o .plan) width = ap (λ (T : State). cellsNeeded (T .plan) (T .width)) e in
-      let w : memoryJudged kind o M ≡ 0 =
-      lent-zero kind o M (ap stateNumber (sym s) ∙ f .judged) refl (omega arith) (omega arith) (omega arith) (omega arith) (ap (λ ss. allSound width ss (M .starts) (M .lengths)) u ∙ f .sound) in
-      let i : first .step ≡ 0 = ap (λ (T : State). T .step) e in
-      record {
-        kept = refl;
-        lent = ap (λ (T : State). memoryJudged kind T M) e ∙ w;
-        reads = omega (arith, i);
-        wide = tt;
-        good = tt;
-        answers = sym i;
-        told = λ p whole _. record {
-          held = subst (λ (T : State). Holds K (used (T .plan)) (T .width) p (T .step) M) (sym e) (subst (λ ss. Holds K ss width p 0 M) (sym u) (f .holds (M .values) (M .positions) p));
-          says = rw i;
-          comes = rw i;
-        };
-      }
+  going-first : {M : Memory A} (rows : ℕ) → Begun Fixed rows M → Going first M [] [] []
+  going-first rows b = record {
+    kept = refl;
+    fixed = b .ends;
+    lent = b .lent;
+    reads = omega (arith, b .none);
+    wide = tt;
+    good = tt;
+    answers = sym (b .none);
+    told = λ p whole _. b .told p;
+  }
 
   abbrev R : State → Memory A → Picture A → List RowSaid → List (Option (List A)) → Type 0
   R = PictureRun K kind first
 
   going : {S : State} {M : Memory A} {read : Picture A} {said : List RowSaid} {came : List (Option (List A))} → R S M read said came → Going S M read said came
   going (started plan width rows cells starts lengths r l h z q v p) =
-      going-first plan width rows cells starts lengths r (omega (arith, l, start-fits plan kind width rows cells (min (length starts) (length lengths)) (sym (h .told) ∙ z) .0)) h z q v p
+      let f = start-fits plan kind width rows cells (min (length starts) (length lengths)) (sym (h .told) ∙ z) .0 in
+      going-first rows (begun plan width Fixed rows rows (begins-fixed rows) cells starts lengths r (omega arith) h z q v p)
   going (started-numbers {M} count bytes width rows cells starts lengths r h z q v p) =
-      going-first (planOf (stagesFrom count bytes)) width rows cells starts lengths r (rw length-append (omega arith)) (numbers-start count bytes kind width rows cells starts lengths (M .starts) (M .lengths) r h z) z q v p
+      let plan = planOf (stagesFrom count bytes) in
+      going-first rows (begun plan width Fixed rows rows (begins-fixed rows) cells starts lengths r (rw length-append (omega arith))
+      (numbers-start count bytes kind width rows cells (firstState plan kind width rows) starts lengths (M .starts) (M .lengths) r h z) z q v p)
   going (offered {S} {S′} {M} {M′} {read} {said} {came} pixels out out′ answer r n h) = going-row S M read said came (going r) out M′ out′ answer S′ pixels n (h .accepted n)
   going (drained {S} {S′} {M} {M′} {read} {said} {came} out out′ answer r n h) = going-drain S M read said came (going r) out M′ out′ answer S′ n (h .accepted n)
   going (row-refused {S} {S′} {M} {M′} {read} {said} {came} pixels out out′ answer r n h) =
       let u = h .refusal n in going-same S M read said came (going r) out M′ out′ answer S′ (u .state) (u .memory)
   going (drain-refused {S} {S′} {M} {M′} {read} {said} {came} out out′ answer r n h) =
       let u = h .refusal n in going-same S M read said came (going r) out M′ out′ answer S′ (u .state) (u .memory)
-
-  comparisons-here : (S : State) (p : Picture A) (t : ℕ) → rowComparisons (rowSaidOver K kind first S p t) ≡ planCost (stagesOf (K .order) (S .plan)) (S .width) p t
-  comparisons-here S p t = split (leb (planAhead (S .plan)) t) (λ d. rw d) (λ d. rw d)
 
   module _ (S : State) (M : Memory A) (read : Picture A) (said : List RowSaid) (came : List (Option (List A))) (r : R S M read said came) where
     -- THE THEOREM. After a start that is taken and any calls, refused ones among them: over every whole picture that begins with the rows that were accepted, the answers, the rows, their
@@ -335,25 +392,19 @@ module _ {A : Type 0} (K : Samples A) (kind : ℕ) (first : State) where
     run-told p whole e =
         let g = going r in
         let u = g .told p whole e in
-        let Ss = stagesOf (K .order) (S .plan) in
-        let b = judged-fit kind S M (g .lent) .run .within in
-        let c : map rowComparisons said ≡ tabulate (S .step) (planCost Ss (S .width) p) =
-        ap (map rowComparisons) (u .says) ∙ map-table rowComparisons (S .step) (rowSaidOver K kind first S p) ∙ tabulate-ext (S .step) _ _ (λ k _. comparisons-here S p k) in
-        let a = look-ahead-plan (K .order) (S .plan) in
+        let b : S .step ≤ S .rows + planAhead (S .plan) = rw (g .fixed) at (judged-fit kind S M (g .lent) .run .within) in
+        let f = told-follows p S M said came u (whole .wide) (rw (whole .high) b) (rw (g .fixed, whole .high)) (g .lent) in
         record {
           kept = g .kept;
-          counted = ap length (u .says) ∙ length-tabulate (S .step) (rowSaidOver K kind first S p);
+          counted = f .counted;
           bounded = b;
           says = u .says;
           comes = u .comes;
-          filtered = ap rowsOf (u .comes) ∙ rows-told Ss p (S .step) (rw (a, whole .high) b) ∙ ap (λ d. take (S .step - d) (applyPlan Ss p)) a;
-          costs = c;
-          few =
-              let d = plan-costs-bound Ss (S .width) p (whole .wide) (S .step) in
-              rw (c, sum-table (S .step) (planCost Ss (S .width) p)) (rw (length-map (used (S .plan)), whole .high) at d);
+          filtered = f .filtered;
+          costs = f .costs;
+          few = rw (whole .high) at (f .few);
           held = u .held;
-          shows = λ stage column place answer h.
-              shows-queue K kind S M stage column place answer (queueOver K kind first S p stage column) (g .lent) h (λ i x. queue-run K (S .width) column x (used (S .plan)) stage p (S .step) M i (u .held));
+          shows = f .shows;
         }
 
     -- ---- the rows that were accepted
@@ -378,7 +429,8 @@ module _ {A : Type 0} (K : Samples A) (kind : ℕ) (first : State) where
     pub run-begins : 0 < S .step → (0 < length read) × Whole K (S .width) (S .rows) (filled (S .rows) read) × (take (length read) (filled (S .rows) read) ≡ read)
     run-begins h =
         let g = going r in
-        let a : 0 < length read = omega (arith, g .reads, judged-fit kind S M (g .lent) .run .high) in
+        let c : 0 < S .rows = rw (g .fixed) at (judged-fit kind S M (g .lent) .run .high) in
+        let a : 0 < length read = omega (arith, g .reads) in
         let b : length read ≤ S .rows = omega (arith, g .reads) in (
           a,
           record { wide = filled-each _ (S .rows) read a (g .wide); high = filled-long (S .rows) read b; good = filled-each _ (S .rows) read a (g .good) },
@@ -392,14 +444,15 @@ module _ {A : Type 0} (K : Samples A) (kind : ℕ) (first : State) where
 
     -- a row in turn, of the picture's width and of accepted pixels
     pub run-takes : (pixels out : List A) → S .step < S .rows → length pixels ≡ S .width → length out ≡ S .width → all (K .good) pixels ≡ true → rowNumber K kind S M pixels out ≡ 0
-    unfolding rowNumber
     run-takes pixels out l a b g =
-        let z = sym (offer-all kind S (length (M .values)) (length (M .positions)) (M .starts) (M .lengths) (length pixels) (length out) (going r .lent) l a b) in
-        first-skip (offerNumber kind S (length pixels) (length out) (length (M .values)) (length (M .positions)) (M .starts) (M .lengths)) (given 8 (not (all (K .good) pixels)) ∷ []) z ∙ rw g
+        let (c, d) = fixed-reads (S .ending) (S .rows) (S .step) (going r .fixed) l in
+        row-zero K kind S M pixels out (sym (offer-all kind S (length (M .values)) (length (M .positions)) (M .starts) (M .lengths) (length pixels) (length out) (going r .lent) c d a b)) g
 
     -- a drain in turn
     pub run-drains : (out : List A) → S .rows ≤ S .step → S .step < S .rows + planAhead (S .plan) → length out ≡ S .width → drainJudged kind S M out ≡ 0
-    run-drains out l h b = sym (drain-all kind S (length (M .values)) (length (M .positions)) (M .starts) (M .lengths) (length out) (going r .lent) l (planAhead (S .plan)) refl h b)
+    run-drains out l h b =
+        let d = closed-drains (S .ending) (S .rows) (planAhead (S .plan)) (S .step) (rw (going r .fixed)) l h in
+        sym (drain-all kind S (length (M .values)) (length (M .positions)) (M .starts) (M .lengths) (length out) (going r .lent) d b)
 
 -- ---- floats
 

@@ -15,10 +15,10 @@ use Rattle.plan_record.specs.declared.Plan.{Plan}
 use Rattle.plan_record.specs.Plan.{used, unused, filterOf, stagesOf, planOf, stagesFrom, cellsNeeded, recordsNeeded, planAhead}
 use Rattle.memory.specs.Memory.{Memory, Holds}
 use Rattle.picture_state.specs.declared.State.{State}
-use Rattle.picture_state.specs.declared.Started.{Started}
+use Rattle.picture_start.specs.declared.Started.{Started}
 use Rattle.picture_state.specs.declared.Answer.{Answer}
-use Rattle.picture_state.specs.Numbers.{startNumber, rowNumber, drainJudged}
-use Rattle.picture_state.specs.Start.{firstState, numbersNumber, PictureStart}
+use Rattle.picture_state.specs.Numbers.{rowNumber, drainJudged}
+use Rattle.picture_start.specs.Start.{startNumber, firstState, numbersNumber, PictureStart}
 use Rattle.picture_state.specs.Step.{RowSaid, row, notYet, refused, rowSaidOf, rowSaidAt, RowStep, DrainStep}
 use Rattle.picture_state.specs.ReadOut.{Shows}
 
@@ -49,7 +49,7 @@ sumOf (n ∷ l) = n + sumOf l
 
 -- a state after so many steps
 abbrev pub stateAt : State → ℕ → State
-stateAt S n = record { plan = S .plan; sample = S .sample; width = S .width; rows = S .rows; step = n }
+stateAt S n = record { plan = S .plan; sample = S .sample; width = S .width; ending = S .ending; rows = S .rows; step = n }
 
 -- Samples K have that sample kind's number. `first` is the state that the start handed out.
 module _ {A : Type 0} (K : Samples A) (kind : ℕ) (first : State) where

@@ -5,7 +5,7 @@ use Prim.Native.Nat.{ℕ, _<_}
 use lib.ListN.{length}
 use Rattle.sample.specs.Samples.{Samples}
 use Rattle.plan_record.specs.Plan.{used, cellsNeeded, recordsNeeded}
-use Rattle.memory.specs.Memory.{Memory, behind, queueAt}
+use Rattle.memory.specs.Memory.{Memory, behind, keptAt}
 use Rattle.picture_state.specs.declared.State.{State}
 use Rattle.picture_state.specs.declared.Answer.{Answer}
 
@@ -17,9 +17,9 @@ pub record Equal {A : Type 0} (M₁ M₂ : Memory A) (out₁ out₂ : List A) (a
   pub memory : M₁ ≡ M₂
 
 module _ {A : Type 0} (K : Samples A) (S : State) where
-  -- every queue of every stage's columns is the same
+  -- every queue of every stage's columns is the same, cell by cell as they stand
   abbrev pub SameQueues : Memory A → Memory A → Type 0
-  SameQueues M N = (stage column : ℕ) → stage < length (used (S .plan)) → column < S .width → queueAt K (used (S .plan)) (S .width) M stage column ≡ queueAt K (used (S .plan)) (S .width) N stage column
+  SameQueues M N = (stage column : ℕ) → stage < length (used (S .plan)) → column < S .width → keptAt K (used (S .plan)) (S .width) M stage column ≡ keptAt K (used (S .plan)) (S .width) N stage column
 
   -- two outcomes of an accepted step
   pub record SameStep (M₁ M₂ : Memory A) (out₁ out₂ : List A) (a₁ a₂ : Answer) (S₁ S₂ : State) : Type 0 where

@@ -2,13 +2,16 @@
 
 ghost use mathlib.Core.Path.{_≡_};
 ghost use mathlib.Core.List.{map};
-ghost use Prim.Native.Nat.{_+_, _<_};
+ghost use Prim.Native.Nat.{_+_, _≤_, _<_};
 ghost use lib.ListN.{length};
 ghost use Rattle.sample.specs.Samples.{rates};
 ghost use Rattle.plan_record.specs.Plan.{planAhead};
 ghost use Rattle.columns.specs.Inner.{Lent};
 ghost use Rattle.memory.specs.Memory.{memory, columnAt};
 ghost use Rattle.picture_state.specs.Inner.{Fit, placeShown};
+ghost use Rattle.picture_state.specs.Numbers.{heightOf};
+ghost use Rattle.morph.specs.Cell.{readAt};
+ghost use mathlib.Core.List.{map};
 ghost use Rattle.picture_rate.specs.Shown.{rateShown};
 ghost use Rattle.picture_state.specs.ReadOut.{Shows};
 ghost use Rattle.morph.specs.Line.{found, refused};
@@ -16,7 +19,7 @@ ghost use Rattle.picture_state.specs.Step.{Advanced, RowStep, DrainStep};
 use morph::wide;
 use picture_state::State;
 use picture_state::Stepped;
-use queue_rate::Entry;
+use queue_rate::RowEntry;
 
 // A step that is accepted, over a row of the width that the stages may write on.
 fn advance(
@@ -24,17 +27,17 @@ fn advance(
     work: &mut [f32],
     out: &mut [f32],
     values: &mut [f32],
-    positions: &mut [u16],
+    positions: &mut [u8],
     starts: &mut [u8],
     lengths: &mut [u8],
 ) -> Stepped
-    requires { ⌜ Fit state (memory (now values) (now positions) (now starts) (now lengths)) × (length (now work) ≡ state .width) × (length (now out) ≡ state .width) × (state .step < state .rows + planAhead (state .plan)) ⌝ }
+    requires { ⌜ Fit state (memory (now values) (now positions) (now starts) (now lengths)) × (length (now work) ≡ state .width) × (length (now out) ≡ state .width) × (state .step < heightOf state + planAhead (state .plan)) ⌝ }
     ensures { λ r. ⌜ Advanced rates state (memory (now (values .entry)) (now (positions .entry)) (now (starts .entry)) (now (lengths .entry))) (now (work .entry)) (now (out .entry)) (memory (now (values .exit)) (now (positions .exit)) (now (starts .exit)) (now (lengths .exit))) (now (out .exit)) (r .answer) (r .state) ⌝ }
 {
     let own = state.plan;
     let plan = picture_state::whole(own);
     let width = state.width;
-    let rows = state.rows;
+    let rows = picture_state::height(state);
     let t = state.step;
     let cells = plan_record::cells(plan, width);
     let records = plan_record::records(plan, width);
@@ -79,7 +82,7 @@ pub fn row(
     row: &[f32],
     out: &mut [f32],
     values: &mut [f32],
-    positions: &mut [u16],
+    positions: &mut [u8],
     starts: &mut [u8],
     lengths: &mut [u8],
 ) -> Stepped
@@ -121,7 +124,7 @@ pub fn drain(
     state: State,
     out: &mut [f32],
     values: &mut [f32],
-    positions: &mut [u16],
+    positions: &mut [u8],
     starts: &mut [u8],
     lengths: &mut [u8],
 ) -> Stepped
@@ -154,11 +157,11 @@ pub fn drain(
 
 // What a read-out answers.
 pub enum ReadOut {
-    Found(Entry),
+    Found(RowEntry),
     Refused(u8),
 }
 
-fn finds(e: Entry) -> ReadOut
+fn finds(e: RowEntry) -> ReadOut
     ensures { λ r. ⌜ rateShown r ≡ found (record { value = e .value; position = e .position }) ⌝ }
 {
     ReadOut::Found(e)
@@ -170,23 +173,24 @@ fn lacks(number: u8) -> ReadOut
     ReadOut::Refused(number)
 }
 
-// Place k of column x's queue, in a stage's part of the memory.
+// Place k of column x's queue, in a stage's part of the memory, s being the stage's own steps done.
 fn show<'a>(
     places: usize,
     values: &'a [f32],
-    positions: &'a [u16],
+    positions: &'a [u8],
     starts: &'a [u8],
     lengths: &'a [u8],
     x: usize,
     k: usize,
+    s: usize,
 ) -> ReadOut
-    requires { ⌜ Lent places (length (now starts)) (now positions) (now starts) (now lengths) × (length (now values) ≡ length (now positions)) × (x < length (now starts)) ⌝ }
-    ensures { λ r. ⌜ rateShown r ≡ placeShown rates (columnAt rates places (now (values .entry)) (now (positions .entry)) (now (starts .entry)) (now (lengths .entry)) x) k ⌝ }
+    requires { ⌜ Lent places (length (now starts)) (now positions) (now starts) (now lengths) × (length (now values) ≡ length (now positions)) × (x < length (now starts)) × (s ≤ 4294967800) ⌝ }
+    ensures { λ r. ⌜ rateShown r ≡ placeShown rates (map (readAt s) (columnAt rates places (now (values .entry)) (now (positions .entry)) (now (starts .entry)) (now (lengths .entry)) x)) k ⌝ }
 {
     if wide(lengths[x]) <= k {
         return lacks(11);
     }
-    finds(columns_rate::entry(places, values, positions, starts, x, k))
+    finds(columns_rate::entry(places, values, positions, starts, x, k, s))
 }
 
 // The entry at a place of the queue of a stage's column: places count from the oldest.
@@ -196,7 +200,7 @@ pub fn read_out<'a>(
     column: usize,
     place: usize,
     values: &'a [f32],
-    positions: &'a [u16],
+    positions: &'a [u8],
     starts: &'a [u8],
     lengths: &'a [u8],
 ) -> ReadOut
@@ -218,6 +222,8 @@ pub fn read_out<'a>(
     let own = state.plan;
     let plan = picture_state::whole(own);
     let width = state.width;
+    let rows = picture_state::height(state);
+    let steps = picture_state::place::own_steps(plan, stage, rows, state.step);
     let part = picture_state::place::part_of(plan, stage, width);
     let places = part.places;
     let lo = part.cells;
@@ -232,5 +238,6 @@ pub fn read_out<'a>(
         &lengths[from..to],
         column,
         place,
+        steps,
     )
 }

@@ -1,4 +1,3 @@
 pub mod Numbers
 pub mod Step
-pub mod Starting
 pub mod ReadingOut

@@ -1,19 +1,19 @@
 -- What an accepted plan, size, state and memory have: the numbers read back as facts.
 use mathlib.Core.Path.{_≡_, refl, sym, ap, _∙_}
-use mathlib.Core.Bool.{Bool, true, not, _&&_, _||_, and-true, and-assoc}
+use mathlib.Core.Bool.{Bool, true, false, not, _&&_, _||_, and-true, and-assoc, false≢true}
 use mathlib.Core.List.{List, [], _∷_, _++_}
-use Prim.Native.Nat.{ℕ, suc, _+_, _-_, _*_, _≤_, _<_}
+use Prim.Native.Nat.{ℕ, suc, _+_, _-_, _*_, _≤_, _<_, min}
 use native.Mathlib.Nat.{zero-mul, mul-le-mul-right}
 use native.Mathlib.Numerals.{add-one}
 use native.Mathlib.Omega.{arith}
-use borrow.Author.Tests.{eqb-true, ltb-false, leb-false, not-false, eq-eqb, ne-eqb, le-leb, lt-leb, le-ltb, lt-ltb}
-use lib.Dec.{eqb, ltb, leb}
+use borrow.Author.Tests.{eqb-true, ltb-false, leb-false, not-false, eq-eqb, ne-eqb, lt-leb, le-ltb, lt-ltb}
+use lib.Dec.{eqb, ltb}
 use lib.ListN.{length, getD, take, drop, length-take, length-drop}
 use lib.Seq.{getD-take, take-suc, drop-drop, length-take-le}
 use Rattle.morph.specs.Lists.{Each}
 use Rattle.morph.proofs.Lists.{neither, each-in, in-place}
-use Rattle.morph.specs.Numbers.{given, firstOf}
-use Rattle.morph.proofs.Numbers.{first-one, first-skip, first-found, first-zero, given-zero, found}
+use Rattle.morph.specs.Numbers.{given, firstOf, outside}
+use Rattle.morph.proofs.Numbers.{first-one, first-skip, first-found, first-zero, given-zero, found, skip, inside}
 use Rattle.plan_record.specs.declared.Stage.{Stage}
 use Rattle.plan_record.specs.declared.Plan.{Plan}
 use Rattle.plan_record.specs.Numbers.{sampleNumber, sizeNumber}
@@ -24,8 +24,10 @@ use Rattle.plan_record.proofs.Named.{judged-count, judged-stage}
 use Rattle.stage.proofs.Stage.{ahead-small}
 use Rattle.memory.specs.Memory.{soundRecords, allSound}
 use Rattle.picture_state.specs.declared.State.{State}
+use Rattle.picture_state.specs.declared.Ending.{Ending}
+use Rattle.picture_state.specs.declared.Ending.the-variants.{Fixed, Open, Stopped}
 use Rattle.picture_state.specs.Inner.{Accepted, StateSound}
-use Rattle.picture_state.specs.Numbers.{memoryNumber, stateNumber, stateKindNumber, recordsNumber, sharedNumber, lentNumber, offerNumber, drainNumber}
+use Rattle.picture_state.specs.Numbers.{heightIn, heightOf, sizeIn, stepOff, allRead, pastLast, noDrain, notOpen, memoryNumber, stateNumber, stateKindNumber, recordsNumber, sharedNumber, lentNumber, offerNumber, drainNumber}
 
 pub plan-accepted : (plan : Plan) → recordNumber plan ≡ 0 → Accepted plan
 plan-accepted plan e = let (a, b) = judged-count plan e in record { some = a; few = b; small = judged-stage plan e }
@@ -47,15 +49,79 @@ ahead-few plan h = omega (arith, total-small (used plan) (used-small plan h), le
 
 -- ---- what an accepted state has
 
+-- the rows that a step knows of, where they are the state's
+pub height-fixed : (e : Ending) (rows step : ℕ) → notOpen e ≡ true → heightIn e rows step ≡ rows
+height-fixed Fixed rows step h = refl
+height-fixed Open rows step h = absurd (false≢true h)
+height-fixed Stopped rows step h = refl
+
+-- what the size and the step count say, of a plan with look-ahead D
+record Sized (e : Ending) (width rows D step : ℕ) : Type 0 where
+  wide : 0 < width
+  narrow : width ≤ 4096
+  high : 0 < heightIn e rows step
+  low : heightIn e rows step ≤ 4294967297
+  within : step ≤ heightIn e rows step + D
+  counted : step ≤ 4294967296 + D
+  closed : notOpen e ≡ true → rows ≤ 4294967296
+
+read-size : (width rows : ℕ) → sizeIn Stopped width rows ≡ 0 → (sizeNumber width 1 ≡ 0) × (0 < rows) × (rows ≤ 4294967296)
+read-size width rows z =
+    let (a, b) = first-zero (sizeNumber width 1) (given 4 (outside 4294967296 rows) ∷ []) z in
+    let (c, _) = first-zero (given 4 (outside 4294967296 rows)) [] b in
+    let (d, f) = inside 4294967296 rows (given-zero 3 _ c) in
+    (a, d, f)
+
+-- its number, way by way
+module _ (width rows : ℕ) where
+  abbrev after-width : List ℕ
+  after-width = given 4 (outside 4294967296 rows) ∷ []
+
+  pub read-narrow : (n : ℕ) → n ≡ sizeNumber width 1 → (n ≡ 0 → ⊥) → n ≡ sizeIn Stopped width rows
+  read-narrow n e h = found (sizeNumber width 1) after-width e h
+
+  module _ (z : sizeNumber width 1 ≡ 0) where
+    pub read-none : rows ≡ 0 → 4 ≡ sizeIn Stopped width rows
+    read-none e = skip (sizeNumber width 1) after-width z (rw e)
+
+    pub read-high : 4294967296 < rows → 4 ≡ sizeIn Stopped width rows
+    read-high h = skip (sizeNumber width 1) after-width z (rw (ne-eqb rows 0 (λ (e : rows ≡ 0). omega arith), lt-ltb 4294967296 rows h))
+
+    pub read-all : (rows ≡ 0 → ⊥) → rows ≤ 4294967296 → 0 ≡ sizeIn Stopped width rows
+    read-all h k = skip (sizeNumber width 1) after-width z (rw (ne-eqb rows 0 h, le-ltb 4294967296 rows k))
+
+sized : (e : Ending) (width rows D step : ℕ) → sizeIn e width rows ≡ 0 → stepOff e rows D step ≡ false → Sized e width rows D step
+sized Fixed width rows D step z o =
+    let (w, x, y, l) = size-accepted width rows z in
+    let h = ltb-false (rows + D) step o in
+    record { wide = w; narrow = x; high = y; low = omega arith; within = h; counted = omega arith; closed = λ _. omega arith }
+sized Open width rows D step z o =
+    let (w, x, _, _) = size-accepted width 1 z in
+    let h = ltb-false 4294967296 step o in
+    record { wide = w; narrow = x; high = omega arith; low = omega arith; within = omega arith; counted = omega arith; closed = λ h. absurd (false≢true h) }
+sized Stopped width rows D step z o =
+    let (a, b, c) = read-size width rows z in
+    let (w, x, _, _) = size-accepted width 1 a in
+    let (_, g) = neither (ltb step rows) _ o in
+    let h = ltb-false (rows + D) step g in
+    record { wide = w; narrow = x; high = b; low = omega arith; within = h; counted = omega arith; closed = λ _. c }
+
+-- while the rows count, they are few
+pub rows-few : (e : Ending) (width rows : ℕ) → sizeIn e width rows ≡ 0 → notOpen e ≡ true → rows ≤ 4294967296
+rows-few Fixed width rows z h = let (_, _, _, l) = size-accepted width rows z in omega arith
+rows-few Open width rows z h = absurd (false≢true h)
+rows-few Stopped width rows z h = read-size width rows z .2
+
 pub state-accepted : (S : State) → stateNumber S ≡ 0 → (recordNumber (S .plan) ≡ 0) × StateSound S
 unfolding stateNumber
 state-accepted S e =
-    let (a, b) = neither (not (eqb (recordNumber (S .plan)) 0) || not (eqb (sampleNumber (S .sample)) 0) || not (eqb (sizeNumber (S .width) (S .rows)) 0)) _ (given-zero 11 _ e) in
+    let (a, b) = neither (not (eqb (recordNumber (S .plan)) 0) || not (eqb (sampleNumber (S .sample)) 0) || not (eqb (sizeIn (S .ending) (S .width) (S .rows)) 0)) _ (given-zero 11 _ e) in
     let (c, d) = neither (not (eqb (recordNumber (S .plan)) 0) || not (eqb (sampleNumber (S .sample)) 0)) _ a in
     let (f, g) = neither (not (eqb (recordNumber (S .plan)) 0)) _ c in
     let p = eqb-true (recordNumber (S .plan)) 0 (not-false _ f) in
-    let (w, x, y, z) = size-accepted (S .width) (S .rows) (eqb-true (sizeNumber (S .width) (S .rows)) 0 (not-false _ d)) in
-    (p, record { plan = plan-accepted (S .plan) p; wide = w; narrow = x; high = y; low = z; within = ltb-false (S .rows + planAhead (S .plan)) (S .step) b })
+    let q = plan-accepted (S .plan) p in
+    let z = sized (S .ending) (S .width) (S .rows) (planAhead (S .plan)) (S .step) (eqb-true (sizeIn (S .ending) (S .width) (S .rows)) 0 (not-false _ d)) b in
+    (p, record { plan = q; wide = z .wide; narrow = z .narrow; high = z .high; low = z .low; within = z .within; counted = omega (arith, z .counted, ahead-few (S .plan) q); closed = z .closed })
 
 -- ---- the loop over the column records
 
@@ -159,77 +225,140 @@ module _ (kind : ℕ) (S : State) (cells records : ℕ) (starts lengths : List �
 
 -- ---- the numbers of a row call and of a drain
 
+-- what the tests of a row and of a drain say
+row-left : (e : Ending) (rows step : ℕ) → (notOpen e ≡ true → rows ≤ 4294967296) → allRead e rows step ≡ false → pastLast e step ≡ false → (step < heightIn e rows step) × (heightIn e rows step ≤ 4294967296)
+row-left Fixed rows step l a b = (leb-false rows step a, l refl)
+row-left Open rows step l a b = let c = leb-false 4294967296 step b in (omega arith, omega arith)
+row-left Stopped rows step l a b = absurd (false≢true (sym a))
+
+drain-left : (e : Ending) (rows D step : ℕ) → noDrain e rows D step ≡ false → (notOpen e ≡ true) × (rows ≤ step) × (step < rows + D)
+drain-left Fixed rows D step a = let (b, c) = neither (ltb step rows) _ a in (refl, ltb-false step rows b, leb-false (rows + D) step c)
+drain-left Open rows D step a = absurd (false≢true (sym a))
+drain-left Stopped rows D step a = let (b, c) = neither (ltb step rows) _ a in (refl, ltb-false step rows b, leb-false (rows + D) step c)
+
+-- and back: of a fixed run, and of one that has been stopped
+pub fixed-reads : (e : Ending) (rows step : ℕ) → e ≡ Fixed → step < rows → (allRead e rows step ≡ false) × (pastLast e step ≡ false)
+fixed-reads e rows step h l = rw h (lt-leb rows step l, refl)
+
+pub closed-drains : (e : Ending) (rows D step : ℕ) → notOpen e ≡ true → rows ≤ step → step < rows + D → noDrain e rows D step ≡ false
+closed-drains Fixed rows D step h a b = rw (le-ltb step rows a, lt-leb (rows + D) step b)
+closed-drains Open rows D step h a b = absurd (false≢true h)
+closed-drains Stopped rows D step h a b = rw (le-ltb step rows a, lt-leb (rows + D) step b)
+
 module _ (kind : ℕ) (S : State) (values positions : ℕ) (starts lengths : List ℕ) where
   abbrev lent : ℕ
   lent = lentNumber kind S values positions starts lengths
 
+  abbrev read : Bool
+  read = allRead (S .ending) (S .rows) (S .step)
+
+  abbrev past : Bool
+  past = pastLast (S .ending) (S .step)
+
+  abbrev done : Bool
+  done = noDrain (S .ending) (S .rows) (planAhead (S .plan)) (S .step)
+
+  sound : lent ≡ 0 → StateSound S
+  sound z = shared-accepted kind S (min values positions) (min (length starts) (length lengths)) starts lengths z .run
+
   module _ (row out : ℕ) where
+    -- what is left to judge after the memory, 9 and 28
+    abbrev after-last : List ℕ
+    after-last = given 7 (not (eqb row (S .width)) || not (eqb out (S .width))) ∷ []
+
+    abbrev after-nine : List ℕ
+    after-nine = given 28 past ∷ after-last
+
     abbrev offered : List ℕ
-    offered = given 9 (leb (S .rows) (S .step)) ∷ given 7 (not (eqb row (S .width)) || not (eqb out (S .width))) ∷ []
+    offered = given 9 read ∷ after-nine
 
     pub offer-lent : (n : ℕ) → n ≡ lent → (n ≡ 0 → ⊥) → n ≡ offerNumber kind S row out values positions starts lengths
     unfolding offerNumber
     offer-lent n e h = found lent offered e h
 
-    pub offer-past : lent ≡ 0 → firstOf offered ≡ offerNumber kind S row out values positions starts lengths
+    offer-past : lent ≡ 0 → firstOf offered ≡ offerNumber kind S row out values positions starts lengths
     unfolding offerNumber
     offer-past z = sym (first-skip lent offered z)
 
     module _ (z : lent ≡ 0) where
-      pub offer-nine : S .rows ≤ S .step → 9 ≡ offerNumber kind S row out values positions starts lengths
-      offer-nine a = simp (le-leb (S .rows) (S .step) a) at (offer-past z)
+      pub offer-nine : read ≡ true → 9 ≡ offerNumber kind S row out values positions starts lengths
+      offer-nine a = simp a at (offer-past z)
 
-      module _ (a : S .step < S .rows) where
-        pub offer-row : (row ≡ S .width → ⊥) → 7 ≡ offerNumber kind S row out values positions starts lengths
-        offer-row b = simp (lt-leb (S .rows) (S .step) a, ne-eqb row (S .width) b) at (offer-past z)
+      module _ (a : read ≡ false) where
+        pub offer-last : past ≡ true → 28 ≡ offerNumber kind S row out values positions starts lengths
+        offer-last b = simp (a, b) at (offer-past z)
 
-        pub offer-out : row ≡ S .width → (out ≡ S .width → ⊥) → 7 ≡ offerNumber kind S row out values positions starts lengths
-        offer-out b c = simp (lt-leb (S .rows) (S .step) a, eq-eqb row (S .width) b, ne-eqb out (S .width) c) at (offer-past z)
+        module _ (b : past ≡ false) where
+          pub offer-row : (row ≡ S .width → ⊥) → 7 ≡ offerNumber kind S row out values positions starts lengths
+          offer-row c = simp (a, b, ne-eqb row (S .width) c) at (offer-past z)
 
-        pub offer-all : row ≡ S .width → out ≡ S .width → 0 ≡ offerNumber kind S row out values positions starts lengths
-        offer-all b c = simp (lt-leb (S .rows) (S .step) a, eq-eqb row (S .width) b, eq-eqb out (S .width) c) at (offer-past z)
+          pub offer-out : row ≡ S .width → (out ≡ S .width → ⊥) → 7 ≡ offerNumber kind S row out values positions starts lengths
+          offer-out c d = simp (a, b, eq-eqb row (S .width) c, ne-eqb out (S .width) d) at (offer-past z)
+
+          pub offer-all : row ≡ S .width → out ≡ S .width → 0 ≡ offerNumber kind S row out values positions starts lengths
+          offer-all c d = simp (a, b, eq-eqb row (S .width) c, eq-eqb out (S .width) d) at (offer-past z)
 
     -- nothing is wrong: what that says
-    pub offer-accepted : offerNumber kind S row out values positions starts lengths ≡ 0 → (lent ≡ 0) × (S .step < S .rows) × (row ≡ S .width) × (out ≡ S .width)
+    pub record OfferTaken : Type 0 where
+      pub judged : lent ≡ 0
+      pub within : S .step < heightOf S
+      pub low : heightOf S ≤ 4294967296
+      pub wide : row ≡ S .width
+      pub out-wide : out ≡ S .width
+
+    pub offer-accepted : offerNumber kind S row out values positions starts lengths ≡ 0 → OfferTaken
     unfolding offerNumber
     offer-accepted e =
         let (a, b) = first-zero lent offered e in
-        let (c, d) = first-zero (given 9 (leb (S .rows) (S .step))) (given 7 (not (eqb row (S .width)) || not (eqb out (S .width))) ∷ []) b in
-        let (f, _) = first-zero (given 7 (not (eqb row (S .width)) || not (eqb out (S .width)))) [] d in
-        let (g, h) = neither (not (eqb row (S .width))) _ (given-zero 6 _ f) in
-        (a, leb-false (S .rows) (S .step) (given-zero 8 _ c), eqb-true row (S .width) (not-false _ g), eqb-true out (S .width) (not-false _ h))
+        let (c, d) = first-zero (given 9 read) after-nine b in
+        let (f, g) = first-zero (given 28 past) after-last d in
+        let (h, _) = first-zero (given 7 (not (eqb row (S .width)) || not (eqb out (S .width)))) [] g in
+        let (i, j) = neither (not (eqb row (S .width))) _ (given-zero 6 _ h) in
+        let (w, l) = row-left (S .ending) (S .rows) (S .step) (sound a .closed) (given-zero 8 _ c) (given-zero 27 _ f) in
+        record { judged = a; within = w; low = l; wide = eqb-true row (S .width) (not-false _ i); out-wide = eqb-true out (S .width) (not-false _ j) }
 
   module _ (out : ℕ) where
+    abbrev after-ten : List ℕ
+    after-ten = given 7 (not (eqb out (S .width))) ∷ []
+
     abbrev asked : List ℕ
-    asked = given 10 (ltb (S .step) (S .rows) || leb (S .rows + planAhead (S .plan)) (S .step)) ∷ given 7 (not (eqb out (S .width))) ∷ []
+    asked = given 10 done ∷ after-ten
 
     pub drain-lent : (n : ℕ) → n ≡ lent → (n ≡ 0 → ⊥) → n ≡ drainNumber kind S out values positions starts lengths
     unfolding drainNumber
     drain-lent n e h = found lent asked e h
 
-    pub drain-past : lent ≡ 0 → firstOf asked ≡ drainNumber kind S out values positions starts lengths
+    drain-past : lent ≡ 0 → firstOf asked ≡ drainNumber kind S out values positions starts lengths
     unfolding drainNumber
     drain-past z = sym (first-skip lent asked z)
 
     module _ (z : lent ≡ 0) where
-      pub drain-early : S .step < S .rows → 10 ≡ drainNumber kind S out values positions starts lengths
-      drain-early a = simp (lt-ltb (S .step) (S .rows) a) at (drain-past z)
+      pub drain-ten : done ≡ true → 10 ≡ drainNumber kind S out values positions starts lengths
+      drain-ten a = simp a at (drain-past z)
 
-      module _ (a : S .rows ≤ S .step) (L : ℕ) (e : L ≡ planAhead (S .plan)) where
-        pub drain-done : S .rows + L ≤ S .step → 10 ≡ drainNumber kind S out values positions starts lengths
-        drain-done b = simp (le-ltb (S .step) (S .rows) a, le-leb (S .rows + planAhead (S .plan)) (S .step) (omega arith)) at (drain-past z)
+      module _ (a : done ≡ false) where
+        pub drain-out : (out ≡ S .width → ⊥) → 7 ≡ drainNumber kind S out values positions starts lengths
+        drain-out b = simp (a, ne-eqb out (S .width) b) at (drain-past z)
 
-        pub drain-out : S .step < S .rows + L → (out ≡ S .width → ⊥) → 7 ≡ drainNumber kind S out values positions starts lengths
-        drain-out b c = simp (le-ltb (S .step) (S .rows) a, lt-leb (S .rows + planAhead (S .plan)) (S .step) (omega arith), ne-eqb out (S .width) c) at (drain-past z)
+        pub drain-all : out ≡ S .width → 0 ≡ drainNumber kind S out values positions starts lengths
+        drain-all b = simp (a, eq-eqb out (S .width) b) at (drain-past z)
 
-        pub drain-all : S .step < S .rows + L → out ≡ S .width → 0 ≡ drainNumber kind S out values positions starts lengths
-        drain-all b c = simp (le-ltb (S .step) (S .rows) a, lt-leb (S .rows + planAhead (S .plan)) (S .step) (omega arith), eq-eqb out (S .width) c) at (drain-past z)
+    -- nothing is wrong: what that says
+    pub record DrainTaken : Type 0 where
+      pub judged : lent ≡ 0
+      pub closed : notOpen (S .ending) ≡ true
+      pub read : heightOf S ≤ S .step
+      pub within : S .step < heightOf S + planAhead (S .plan)
+      pub low : heightOf S ≤ 4294967296
+      pub out-wide : out ≡ S .width
 
-    pub drain-accepted : drainNumber kind S out values positions starts lengths ≡ 0 → (lent ≡ 0) × (S .rows ≤ S .step) × (S .step < S .rows + planAhead (S .plan)) × (out ≡ S .width)
+    pub drain-accepted : drainNumber kind S out values positions starts lengths ≡ 0 → DrainTaken
     unfolding drainNumber
     drain-accepted e =
         let (a, b) = first-zero lent asked e in
-        let (c, d) = first-zero (given 10 (ltb (S .step) (S .rows) || leb (S .rows + planAhead (S .plan)) (S .step))) (given 7 (not (eqb out (S .width))) ∷ []) b in
+        let (c, d) = first-zero (given 10 done) after-ten b in
         let (f, _) = first-zero (given 7 (not (eqb out (S .width)))) [] d in
-        let (g, h) = neither (ltb (S .step) (S .rows)) _ (given-zero 9 _ c) in
-        (a, ltb-false (S .step) (S .rows) g, leb-false (S .rows + planAhead (S .plan)) (S .step) h, eqb-true out (S .width) (not-false _ (given-zero 6 _ f)))
+        let (g, h, i) = drain-left (S .ending) (S .rows) (planAhead (S .plan)) (S .step) (given-zero 9 _ c) in
+        let k = height-fixed (S .ending) (S .rows) (S .step) g in
+        let l = sound a .closed g in
+        record { judged = a; closed = g; read = omega arith; within = omega arith; low = omega arith; out-wide = eqb-true out (S .width) (not-false _ (given-zero 6 _ f)) }

@@ -7,7 +7,7 @@ use native.Mathlib.Nat.{sub-zero, zero-mul, not-suc-le-zero, mul-le-mul-right}
 use native.Mathlib.Omega.{arith}
 use borrow.Author.Tests.{le-leb, lt-leb, leb-false}
 use lib.Dec.{leb}
-use lib.ListN.{length, getD, take, drop, length-take, length-drop}
+use lib.ListN.{length, getD, take, drop, length-take, length-drop, length-map}
 use lib.Seq.{length-take-le, drop-drop, take-take, getD-take}
 use Rattle.morph.specs.Line.{Entry, Shown, found, refused}
 use Rattle.morph.specs.Picture.{Picture, applyStage, applyPlan, lookAhead}
@@ -18,7 +18,8 @@ use Rattle.morph.specs.Numbers.{given, firstOf}
 use Rattle.morph.proofs.Numbers.{first-one, first-skip, first-found, first-zero, given-zero}
 use Rattle.sample.specs.Samples.{Samples}
 use Rattle.columns.specs.Inner.{Lent, EntryAt}
-use Rattle.memory.specs.Memory.{Memory, behind, columnAt, queueAt, soundRecords, allSound, Holds}
+use Rattle.morph.specs.Cell.{readAt}
+use Rattle.memory.specs.Memory.{Memory, behind, stageSteps, columnAt, keptAt, queueAt, soundRecords, allSound, Holds}
 use Rattle.columns.proofs.Column.{column-length}
 use Rattle.memory.proofs.Records.{test-sound}
 use Rattle.plan_record.specs.declared.Stage.{Stage}
@@ -26,8 +27,8 @@ use Rattle.plan_record.specs.declared.Plan.{Plan}
 use Rattle.plan_record.specs.Plan.{unused, used, filterOf, sizeOf, belowOf, cellsOf, total, cellsNeeded, recordsNeeded}
 use Rattle.picture_state.specs.declared.State.{State}
 use Rattle.picture_state.specs.Inner.{Accepted, Fit, placedNumber, placeShown}
-use Rattle.picture_state.specs.Numbers.{lentNumber, memoryJudged}
-use Rattle.picture_state.specs.ReadOut.{readOutNumber, Shows}
+use Rattle.picture_state.specs.Numbers.{heightOf, lentNumber, memoryJudged}
+use Rattle.picture_state.specs.ReadOut.{queueIn, readOutNumber, Shows}
 use Rattle.picture_state.proofs.Step.{judged-fit}
 
 -- ---- the number, but for the queue's place
@@ -82,16 +83,19 @@ module _ {A : Type 0} where
   answers true n s f e h = (λ _. h ∙ ap refused (sym e), λ (z : n ≡ 0). absurd (omega arith))
   answers false n s f e h = (λ k. absurd (k e), λ _. h)
 
-module _ {A : Type 0} (K : Samples A) (P x : ℕ) (vs : List A) (ps ss ls : List ℕ) (k n : ℕ) (s : Shown A) (e : n ≡ getD ls x 0) where
-  pub show-lacks : n ≤ k → s ≡ refused 11 → s ≡ placeShown K (columnAt K P vs ps ss ls x) k
-  show-lacks h q =
-      let l = column-length K P x vs ps ss ls in
-      q ∙ rw (le-leb (length (columnAt K P vs ps ss ls x)) k (omega arith))
+module _ {A : Type 0} (K : Samples A) (P x : ℕ) (vs : List A) (ps ss ls : List ℕ) (k d n : ℕ) (s : Shown A) (e : n ≡ getD ls x 0) where
+  -- column x's queue, read after d steps
+  abbrev read-queue : List (Entry A)
+  read-queue = map (readAt d) (columnAt K P vs ps ss ls x)
 
-  pub show-finds : (v : A) (p : ℕ) → k < n → EntryAt K P vs ps ss x k v p → s ≡ found (record { value = v; position = p }) → s ≡ placeShown K (columnAt K P vs ps ss ls x) k
-  show-finds v p h g q =
-      let l = column-length K P x vs ps ss ls in
-      q ∙ rw (lt-leb (length (columnAt K P vs ps ss ls x)) k (omega arith)) (ap found (sym (g ls (record { value = K .order .blank; position = 0 }) (omega arith))))
+  read-long : length read-queue ≡ n
+  read-long = length-map (columnAt K P vs ps ss ls x) (readAt d) ∙ column-length K P x vs ps ss ls ∙ sym e
+
+  pub show-lacks : n ≤ k → s ≡ refused 11 → s ≡ placeShown K read-queue k
+  show-lacks h q = q ∙ rw (le-leb (length read-queue) k (omega (arith, read-long)))
+
+  pub show-finds : (v : A) (p : ℕ) → k < n → EntryAt K P vs ps ss x k d v p → s ≡ found (record { value = v; position = p }) → s ≡ placeShown K read-queue k
+  show-finds v p h g q = q ∙ rw (lt-leb (length read-queue) k (omega (arith, read-long))) (ap found (sym (g ls (record { value = K .order .blank; position = 0 }) (omega arith))))
 
 -- ---- the part of a stage
 
@@ -124,8 +128,8 @@ module _ (W : ℕ) where
     cut-behind : (s r : Stage) (n f : ℕ) (M : Memory A) → cut s n f (behind (cellsOf W r) W M) ≡ cut s (cellsOf W r + n) (W + f) M
     cut-behind s r n f M = rw (drop-drop n (cellsOf W r) (M .values), drop-drop n (cellsOf W r) (M .positions), drop-drop f W (M .starts), drop-drop f W (M .lengths))
 
-    queue-cut : (ss : List Stage) (i : ℕ) (M : Memory A) → i < length ss → queueAt K ss W M i x ≡ cut (getD ss i unused) (total (cellsOf W) (take i ss)) (i * W) M
-    unfolding queueAt
+    queue-cut : (ss : List Stage) (i : ℕ) (M : Memory A) → i < length ss → keptAt K ss W M i x ≡ cut (getD ss i unused) (total (cellsOf W) (take i ss)) (i * W) M
+    unfolding keptAt
     queue-cut [] i M h = absurd (not-suc-le-zero h)
     queue-cut (s ∷ ss) zero M h = rw (zero-mul W)
     queue-cut (s ∷ ss) (suc i) M h =
@@ -136,31 +140,45 @@ module _ (W : ℕ) where
 
 -- ---- what a run leaves is what a read-out shows
 
+sub-twice : (t a b : ℕ) → t - a - b ≡ t - (a + b)
+sub-twice t a b = omega arith
+
+-- as many rows as far as t steps go, and so as far as fewer go
+rows-fewer : (t b H L : ℕ) → min t H ≡ min t L → min (t - b) H ≡ min (t - b) L
+rows-fewer t b H L e = omega arith
+
 module _ {A : Type 0} (K : Samples A) (W x : ℕ) (across : x < W) where
-  -- After t steps of a plan over p the queue of a column is that of document 01: "A stage's own step is the plan's step less the F down of the stages before it".
-  pub queue-run : (ss : List Stage) (i : ℕ) (p : Picture A) (t : ℕ) (M : Memory A) → i < length ss → Holds K ss W p t M
-      → queueAt K ss W M i x ≡ planQueue (map (filterOf (K .order)) (take i ss)) (filterOf (K .order) (getD ss i unused)) x p t
-  unfolding Holds queueAt planQueue applyPlan lookAhead
-  queue-run [] i p t M h g = absurd (not-suc-le-zero h)
-  queue-run (s ∷ ss) zero p t M h g = g .0 x across ∙ rw sub-zero
-  queue-run (s ∷ ss) (suc i) p t M h g =
+  -- After t steps of a plan over p the queue of a column is that of document 01: "A stage's own step is the plan's step less the F down of the stages before it". As far as t steps go there are H rows.
+  pub queue-run : (ss : List Stage) (i : ℕ) (p : Picture A) (H t : ℕ) (M : Memory A) → i < length ss → min t H ≡ min t (length p) → Holds K ss W p t M
+      → queueAt K ss W H t M i x ≡ planQueue (map (filterOf (K .order)) (take i ss)) (filterOf (K .order) (getD ss i unused)) x p t
+  unfolding Holds queueAt keptAt planQueue applyPlan lookAhead
+  queue-run [] i p H t M h e g = absurd (not-suc-le-zero h)
+  queue-run (s ∷ ss) zero p H t M h e g =
+      let f : min (t - 0) (H + belowOf s) ≡ min t (length p + belowOf s) = omega arith in
+      rw (f, sub-zero) (g .0 x across)
+  queue-run (s ∷ ss) (suc i) p H t M h e g =
       let F = filterOf (K .order) s in
       let G = filterOf (K .order) (getD ss i unused) in
       let Fs = map (filterOf (K .order)) (take i ss) in
       let l : length (applyStage F p) ≡ length p = stage-length F p in
-      let e : min (t - belowOf s - lookAhead Fs) (length (applyStage F p) + belowOf (getD ss i unused)) ≡ min (t - (belowOf s + lookAhead Fs)) (length p + belowOf (getD ss i unused)) = omega arith in
-      queue-run ss i (applyStage F p) (t - belowOf s) (behind (cellsOf W s) W M) (omega arith) (g .1) ∙ ap (columnQueue G x (applyPlan Fs (applyStage F p))) e
+      let d : stageSteps (s ∷ ss) H t (suc i) ≡ stageSteps ss H (t - belowOf s) i = ap (λ n. min n (H + belowOf (getD ss i unused))) (sym (sub-twice t (belowOf s) (total belowOf (take i ss)))) in
+      let f : min (t - belowOf s - lookAhead Fs) (length (applyStage F p) + belowOf (getD ss i unused)) ≡ min (t - (belowOf s + lookAhead Fs)) (length p + belowOf (getD ss i unused)) =
+      rw l (ap (λ n. min n (length p + belowOf (getD ss i unused))) (sub-twice t (belowOf s) (lookAhead Fs))) in
+      ap (λ n. map (readAt n) (keptAt K ss W (behind (cellsOf W s) W M) i x)) d
+      ∙ queue-run ss i (applyStage F p) H (t - belowOf s) (behind (cellsOf W s) W M) (omega arith) (rw l (rows-fewer t (belowOf s) H (length p) e)) (g .1) ∙ ap (columnQueue G x (applyPlan Fs (applyStage F p))) f
 
 -- ---- a place that is accepted
 
 -- the stage and the column are there, and so many cells before the stage's own
-pub record Place {A : Type 0} (S : State) (M : Memory A) (stage column cells places : ℕ) : Type 0 where
+pub record Place {A : Type 0} (S : State) (M : Memory A) (stage column cells places steps : ℕ) : Type 0 where
   pub fit : Fit S M
   pub there : stage < S .plan .count
   pub across : column < S .width
   pub long : length (S .plan .stages) ≡ 16
   pub begins : cells ≡ total (cellsOf (S .width)) (take stage (S .plan .stages))
   pub size : places ≡ sizeOf (getD (S .plan .stages) stage unused)
+  pub done : steps ≡ stageSteps (S .plan .stages) (heightOf S) (S .step) stage
+  pub counted : steps ≤ 4294967800
 
 -- the part ends within the memory lent, which the stages' cells and records are cut from
 abbrev pub Within : {A : Type 0} → ℕ → ℕ → ℕ → ℕ → Memory A → Type 0
@@ -171,16 +189,18 @@ Within width stage cells places M =
     × (stage * width + width ≤ length (M .lengths))
 
 pub placed-part : {A : Type 0} (kind : ℕ) (S : State) (M : Memory A) (stage column : ℕ) (plan : Plan) → plan ≡ S .plan
-    → placedNumber kind S stage column (length (M .values)) (length (M .positions)) (M .starts) (M .lengths) ≡ 0 → Accepted plan × (stage < plan .count) × (S .width ≤ 4096)
+    → placedNumber kind S stage column (length (M .values)) (length (M .positions)) (M .starts) (M .lengths) ≡ 0
+    → Accepted plan × (stage < plan .count) × (S .width ≤ 4096) × (heightOf S ≤ 4294967297) × (S .step ≤ 4294967792)
 placed-part kind S M stage column plan e z =
     let (a, b, c) = place-accepted kind S stage column (length (M .values)) (length (M .positions)) (M .starts) (M .lengths) z in
     let f = judged-fit kind S M a in
-    rw e (f .run .plan, b, f .run .narrow)
+    rw e (f .run .plan, b, f .run .narrow, f .run .low, f .run .counted)
 
-pub placed-place : {A : Type 0} (kind : ℕ) (S : State) (M : Memory A) (stage column cells places : ℕ) (plan : Plan) → (plan ≡ S .plan) × (length (S .plan .stages) ≡ 16)
+pub placed-place : {A : Type 0} (kind : ℕ) (S : State) (M : Memory A) (stage column rows cells places steps : ℕ) (plan : Plan) → (plan ≡ S .plan) × (length (S .plan .stages) ≡ 16)
     → placedNumber kind S stage column (length (M .values)) (length (M .positions)) (M .starts) (M .lengths) ≡ 0
-    → (cells ≡ total (cellsOf (S .width)) (take stage (plan .stages))) × (places ≡ sizeOf (getD (plan .stages) stage unused)) → Place S M stage column cells places
-placed-place kind S M stage column cells places plan (e, l) z (n, p) =
+    → (cells ≡ total (cellsOf (S .width)) (take stage (plan .stages))) × (places ≡ sizeOf (getD (plan .stages) stage unused))
+    → rows ≡ heightOf S → (steps ≡ stageSteps (plan .stages) rows (S .step) stage) × (steps ≤ 4294967800) → Place S M stage column cells places steps
+placed-place kind S M stage column rows cells places steps plan (e, l) z (n, p) r (d, k) =
     let (a, b, c) = place-accepted kind S stage column (length (M .values)) (length (M .positions)) (M .starts) (M .lengths) z in
     record {
       fit = judged-fit kind S M a;
@@ -189,9 +209,11 @@ placed-place kind S M stage column cells places plan (e, l) z (n, p) =
       long = l;
       begins = n ∙ ap (λ (p : Plan). total (cellsOf (S .width)) (take stage (p .stages))) e;
       size = p ∙ ap (λ (p : Plan). sizeOf (getD (p .stages) stage unused)) e;
+      done = d ∙ ap (λ (p : Plan). stageSteps (p .stages) rows (S .step) stage) e ∙ ap (λ H. stageSteps (S .plan .stages) H (S .step) stage) r;
+      counted = k;
     }
 
-module _ {A : Type 0} (S : State) (M : Memory A) (stage column cells places : ℕ) (h : Place S M stage column cells places) where
+module _ {A : Type 0} (S : State) (M : Memory A) (stage column cells places steps : ℕ) (h : Place S M stage column cells places steps) where
   abbrev W : ℕ
   W = S .width
 
@@ -209,6 +231,12 @@ module _ {A : Type 0} (S : State) (M : Memory A) (stage column cells places : �
 
   own-begins : cells ≡ total (cellsOf W) (take stage (used (S .plan)))
   own-begins = h .begins ∙ ap (total (cellsOf W)) (sym (take-take stage (S .plan .count) (S .plan .stages) (omega (arith, h .there))))
+
+  own-done : steps ≡ stageSteps (used (S .plan)) (heightOf S) (S .step) stage
+  own-done =
+      let t = take-take stage (S .plan .count) (S .plan .stages) (omega (arith, h .there)) in
+      h .done ∙ ap (λ ss. min (S .step - total belowOf ss) (heightOf S + belowOf (getD (S .plan .stages) stage unused))) (sym t)
+      ∙ ap (λ s. min (S .step - total belowOf (take stage (used (S .plan)))) (heightOf S + belowOf s)) own-stage
 
   pub place-within : Within W stage cells places M
   place-within =
@@ -231,7 +259,7 @@ module _ {A : Type 0} (S : State) (M : Memory A) (stage column cells places : �
   records-cut l k = let e : stage * W + W - stage * W ≡ W = omega arith in rw e (length-take-le W (drop (stage * W) l) (rw length-drop (omega arith)))
 
   pub place-asks : Lent places (length (records-of (M .starts))) (cells-of (M .positions)) (records-of (M .starts)) (records-of (M .lengths))
-      × (length (cells-of (M .values)) ≡ length (cells-of (M .positions))) × (column < length (records-of (M .starts)))
+      × (length (cells-of (M .values)) ≡ length (cells-of (M .positions))) × (column < length (records-of (M .starts))) × (steps ≤ 4294967800)
   place-asks =
       let w = place-within in
       let a = records-cut (M .starts) (w .2) in
@@ -251,29 +279,34 @@ module _ {A : Type 0} (S : State) (M : Memory A) (stage column cells places : �
         },
         cells-cut (M .values) (w .0) ∙ sym c,
         rw a (h .across),
+        h .counted,
       )
 
   module _ (K : Samples A) where
-    place-queue : columnAt K places (cells-of (M .values)) (cells-of (M .positions)) (records-of (M .starts)) (records-of (M .lengths)) column ≡ queueAt K (used (S .plan)) W M stage column
+    -- the queue as the code finds it
+    abbrev found-queue : List (Entry A)
+    found-queue = map (readAt steps) (columnAt K places (cells-of (M .values)) (cells-of (M .positions)) (records-of (M .starts)) (records-of (M .lengths)) column)
+
+    place-queue : found-queue ≡ queueIn K S M stage column
+    unfolding queueAt
     place-queue =
         let e : stage * W + W - stage * W ≡ W = omega arith in
         let f : cells + W * places - cells ≡ W * places = omega arith in
-        rw (e, f, own-begins, own-size) (sym (queue-cut W K column (used (S .plan)) stage M used-there))
+        rw (e, f, own-begins, own-size) (ap (map (readAt steps)) (sym (queue-cut W K column (used (S .plan)) stage M used-there))) ∙ ap (λ n. map (readAt n) (keptAt K (used (S .plan)) W M stage column)) own-done
 
     module _ (kind place : ℕ) (s : Shown A) (z : placedNumber kind S stage column (length (M .values)) (length (M .positions)) (M .starts) (M .lengths) ≡ 0) where
-      read-past : readOutNumber K kind S M stage column place ≡ given 11 (leb (length (queueAt K (used (S .plan)) W M stage column)) place)
+      read-past : readOutNumber K kind S M stage column place ≡ given 11 (leb (length (queueIn K S M stage column)) place)
       unfolding readOutNumber
       read-past =
           let (a, b, c) = place-accepted kind S stage column (length (M .values)) (length (M .positions)) (M .starts) (M .lengths) z in
-          let q = leb (length (queueAt K (used (S .plan)) W M stage column)) place in
+          let q = leb (length (queueIn K S M stage column)) place in
           first-skip (memoryJudged kind S M) (given 11 (leb (S .plan .count) stage || leb W column || q) ∷ []) a
           ∙ first-one (given 11 (leb (S .plan .count) stage || leb W column || q))
           ∙ rw (lt-leb (S .plan .count) stage b, lt-leb W column c)
 
-      pub shows-place : s ≡ placeShown K (columnAt K places (cells-of (M .values)) (cells-of (M .positions)) (records-of (M .starts)) (records-of (M .lengths)) column) place
-          → Shows K kind S M stage column place s
+      pub shows-place : s ≡ placeShown K found-queue place → Shows K kind S M stage column place s
       shows-place e =
-          let q = queueAt K (used (S .plan)) W M stage column in
+          let q = queueIn K S M stage column in
           let (a, b) = answers (leb (length q) place) (readOutNumber K kind S M stage column place) s (found (getD q place (record { value = K .order .blank; position = 0 }))) read-past (e ∙ ap (λ q. placeShown K q place) place-queue) in
           record { refusal = a; accepted = b }
 
@@ -283,7 +316,7 @@ module _ {A : Type 0} (K : Samples A) (kind : ℕ) (S : State) (M : Memory A) (s
   unfolding readOutNumber placedNumber
   shows-refused n s e h q =
       let r : readOutNumber K kind S M stage column place ≡ n =
-      first-stays (memoryJudged kind S M) (leb (S .plan .count) stage || leb (S .width) column) (leb (length (queueAt K (used (S .plan)) (S .width) M stage column)) place) (λ z. h (e ∙ z)) ∙ sym e in
+      first-stays (memoryJudged kind S M) (leb (S .plan .count) stage || leb (S .width) column) (leb (length (queueIn K S M stage column)) place) (λ z. h (e ∙ z)) ∙ sym e in
       record { refusal = λ _. q ∙ ap refused (sym r); accepted = λ z. absurd (h (sym r ∙ z)) }
 
   -- the answer follows from the inputs alone

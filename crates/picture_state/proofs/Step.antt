@@ -1,31 +1,35 @@
 -- From the chain's step on the cut memory to the whole step's promise. By which idea: the stages look at no more than they need, so cutting the memory changes nothing.
 use mathlib.Core.Path.{_≡_, refl, sym, ap, _∙_, subst}
-use mathlib.Core.Bool.{Bool, true, false, not}
+use mathlib.Core.Bool.{Bool, true, false, not, _||_}
 use mathlib.Core.List.{List, [], _∷_, map}
 use Prim.Native.Nat.{ℕ, zero, suc, _+_, _-_, _*_, _≤_, _<_, min}
 use native.Mathlib.Nat.{zero-add, suc-add}
 use native.Mathlib.Omega.{arith}
-use borrow.Author.Tests.{leb-true, leb-false, eq-eqb, ne-eqb}
-use lib.Dec.{leb}
+use borrow.Author.Tests.{leb-true, leb-false, ltb-false, le-ltb, eq-eqb, ne-eqb}
+use lib.Dec.{eqb, ltb, leb}
 use lib.ListN.{length, take, drop, length-take}
 use lib.Seq.{take-nil, length-take-le, take-take}
 use Rattle.morph.specs.Lists.{all}
 use Rattle.morph.specs.Picture.{Picture, applyStage}
 use Rattle.morph.specs.Numbers.{given}
-use Rattle.morph.proofs.Numbers.{first-one, first-skip, first-found}
+use Rattle.morph.proofs.Lists.{neither}
+use Rattle.morph.proofs.Numbers.{first-one, first-skip, first-found, given-zero}
 use Rattle.sample.specs.Samples.{Samples, firstBad}
 use Rattle.plan_record.specs.declared.Stage.{Stage}
 use Rattle.plan_record.specs.declared.Plan.{Plan}
-use Rattle.plan_record.specs.Plan.{used, filterOf, belowOf, cellsOf, total, cellsNeeded, recordsNeeded, planAhead}
+use Rattle.plan_record.specs.Numbers.{sampleNumber}
+use Rattle.plan_record.specs.Plan.{recordNumber, used, filterOf, belowOf, cellsOf, total, cellsNeeded, recordsNeeded, planAhead}
 use Rattle.memory.specs.Memory.{Memory, frontOf, behind, allSound, StageHolds, Holds}
 use Rattle.chain.specs.Inner.{Ready, PlanStep}
 use Rattle.chain.proofs.Memory.{AtLeast, Sized, AsLong, append, append-front, append-behind, append-long}
 use Rattle.picture_state.specs.declared.State.{State}
+use Rattle.picture_state.specs.declared.Ending.{Ending}
+use Rattle.picture_state.specs.declared.Ending.the-variants.{Fixed, Open, Stopped}
 use Rattle.picture_state.specs.declared.Answer.{Answer}
 use Rattle.picture_state.specs.Step.{RowSaid, row, notYet, refused, rowSaidOf, rowSaidAt, nextState, Advanced, RowStep, DrainStep}
 use Rattle.picture_state.proofs.Numbers.{shared-accepted, used-small, offer-accepted, drain-accepted}
 use Rattle.picture_state.specs.Inner.{StateSound, Fit}
-use Rattle.picture_state.specs.Numbers.{memoryJudged, offerNumber, rowNumber, drainJudged}
+use Rattle.picture_state.specs.Numbers.{heightIn, heightOf, sizeIn, stepOff, stateNumber, memoryJudged, offerNumber, rowNumber, drainJudged}
 
 -- ---- cutting
 
@@ -79,23 +83,40 @@ judged-fit kind S M e =
     let b = h .records-lent in
     record { run = h .run; values-lent = omega arith; positions-lent = omega arith; starts-lent = omega arith; lengths-lent = omega arith; sound = h .sound }
 
--- what a step that is accepted may rely on: the memory fits, one more step is within the picture's, and the rows are as long as the width
+-- ---- the state after a step
+
+step-more : (e : Ending) (rows D step : ℕ) → stepOff e rows D step ≡ false → step < heightIn e rows step + D → heightIn e rows step ≤ 4294967296 → stepOff e rows D (step + 1) ≡ false
+step-more Fixed rows D step o l h = le-ltb (rows + D) (step + 1) (omega arith)
+step-more Open rows D step o l h = le-ltb 4294967296 (step + 1) h
+step-more Stopped rows D step o l h =
+    let (a, _) = neither (ltb step rows) _ o in
+    let b = ltb-false step rows a in
+    rw (le-ltb (step + 1) rows (omega arith), le-ltb (rows + D) (step + 1) (omega arith))
+
+pub state-next : (S : State) → stateNumber S ≡ 0 → S .step < heightOf S + planAhead (S .plan) → heightOf S ≤ 4294967296 → stateNumber (nextState S) ≡ 0
+unfolding stateNumber
+state-next S e l h =
+    let (a, b) = neither (not (eqb (recordNumber (S .plan)) 0) || not (eqb (sampleNumber (S .sample)) 0) || not (eqb (sizeIn (S .ending) (S .width) (S .rows)) 0)) _ (given-zero 11 _ e) in
+    rw (a, step-more (S .ending) (S .rows) (planAhead (S .plan)) (S .step) b l h)
+
+-- what a step that is accepted may rely on: the memory fits, one more step is within the picture's, whose rows have numbers, and the rows are as long as the width
 pub record Taken {A : Type 0} (S : State) (M : Memory A) (out : List A) : Type 0 where
   pub fit : Fit S M
-  pub within : S .step < S .rows + planAhead (S .plan)
+  pub within : S .step < heightOf S + planAhead (S .plan)
+  pub low : heightOf S ≤ 4294967296
   pub out-wide : length out ≡ S .width
 
 module _ {A : Type 0} (kind : ℕ) (S : State) (M : Memory A) where
   pub offer-taken : (pixels out : List A) → offerNumber kind S (length pixels) (length out) (length (M .values)) (length (M .positions)) (M .starts) (M .lengths) ≡ 0
       → Taken S M out × (length pixels ≡ S .width)
   offer-taken pixels out e =
-      let (a, b, w, o) = offer-accepted kind S (length (M .values)) (length (M .positions)) (M .starts) (M .lengths) (length pixels) (length out) e in
-      (record { fit = judged-fit kind S M a; within = omega arith; out-wide = o }, w)
+      let t = offer-accepted kind S (length (M .values)) (length (M .positions)) (M .starts) (M .lengths) (length pixels) (length out) e in
+      (record { fit = judged-fit kind S M (t .judged); within = omega (arith, t .within); low = t .low; out-wide = t .out-wide }, t .wide)
 
   pub drain-taken : (out : List A) → drainJudged kind S M out ≡ 0 → Taken S M out
   drain-taken out e =
-      let (a, _, d, w) = drain-accepted kind S (length (M .values)) (length (M .positions)) (M .starts) (M .lengths) (length out) e in
-      record { fit = judged-fit kind S M a; within = d; out-wide = w }
+      let t = drain-accepted kind S (length (M .values)) (length (M .positions)) (M .starts) (M .lengths) (length out) e in
+      record { fit = judged-fit kind S M (t .judged); within = t .within; low = t .low; out-wide = t .out-wide }
 
 module _ {A : Type 0} (K : Samples A) (S : State) (M : Memory A) (long : length (S .plan .stages) ≡ 16) where
   abbrev C : ℕ
@@ -130,7 +151,7 @@ module _ {A : Type 0} (K : Samples A) (S : State) (M : Memory A) (long : length 
   backed F = append F (behind C R M)
 
   module _ (h : Fit S M) (row : List A) (wide : length row ≡ S .width) (F : Memory A) (row′ : List A) (c : ℕ) (due : Bool)
-      (g : PlanStep K (used (S .plan)) (S .rows) (S .step) (frontOf C R M) row F row′ c due) where
+      (g : PlanStep K (used (S .plan)) (heightOf S) (S .step) (frontOf C R M) row F row′ c due) where
     ready′ : Ready (used (S .plan)) (S .width) F
     ready′ = rw wide at (g .ready)
 
@@ -169,7 +190,7 @@ module _ {A : Type 0} (K : Samples A) (S : State) (M : Memory A) (long : length 
         holds-whole K (used (S .plan)) (S .width) q t (backed F) (rw (e, backed-front) k)
 
     -- the step's promise, whatever the answer says of the row
-    module _ (out out′ : List A) (answer : Answer) (S′ : State) (next : S′ ≡ nextState S) (within : S .step < S .rows + D) where
+    module _ (out out′ : List A) (answer : Answer) (S′ : State) (next : S′ ≡ nextState S) (within : S .step < heightOf S + D) where
       advanced : rowSaidOf answer ≡ rowSaidAt (leb D (S .step)) (S .step - D) c → (S .step < D → out′ ≡ out) → (D ≤ S .step → out′ ≡ row′) → Advanced K S M row out (backed F) out′ answer S′
       advanced said early late = record {
         comparisons = c;
@@ -226,7 +247,7 @@ pub record Went {A : Type 0} (K : Samples A) (S : State) (M : Memory A) (pixels 
   pub records-are : records ≡ recordsNeeded plan (S .width)
   pub fit : Fit S M
   pub wide : length pixels ≡ S .width
-  pub step : PlanStep K (used plan) (S .rows) (S .step) (frontOf cells records M) pixels F pixels′ n due
+  pub step : PlanStep K (used plan) (heightOf S) (S .step) (frontOf cells records M) pixels F pixels′ n due
 
 module _ {A : Type 0} {K : Samples A} {S : State} {M : Memory A} {pixels : List A} {plan : Plan} {cells records : ℕ} {F : Memory A} {pixels′ : List A} {n : ℕ} {due : Bool}
     (g : Went K S M pixels plan cells records F pixels′ n due) where
@@ -236,7 +257,7 @@ module _ {A : Type 0} {K : Samples A} {S : State} {M : Memory A} {pixels : List 
   pub ran-late : {L : ℕ} → due ≡ true → L ≡ planAhead plan → L ≤ S .step
   ran-late d e = rw (e, g .same .0) (due-late (planAhead (S .plan)) (S .step) due when d)
 
-  module _ (answer : Answer) (S′ : State) (next : S′ ≡ nextState S) (within : S .step < S .rows + planAhead (S .plan)) (out : List A) where
+  module _ (answer : Answer) (S′ : State) (next : S′ ≡ nextState S) (within : S .step < heightOf S + planAhead (S .plan)) (out : List A) where
     stepped : (out′ : List A) → rowSaidOf answer ≡ rowSaidAt (leb (planAhead (S .plan)) (S .step)) (S .step - planAhead (S .plan)) n → (S .step < planAhead (S .plan) → out′ ≡ out)
         → (planAhead (S .plan) ≤ S .step → out′ ≡ pixels′) → Advanced K S M pixels out (append F (behind cells records M)) out′ answer S′
     stepped out′ said early late =
@@ -300,7 +321,7 @@ module _ {A : Type 0} (K : Samples A) (kind : ℕ) (S : State) (M : Memory A) wh
     pub accepts-drain : (work : List A) (M′ : Memory A) (out′ : List A) (answer : Answer) (S′ : State) → drainJudged kind S M out ≡ 0 → Advanced K S M work out M′ out′ answer S′
         → DrainStep K kind S M out M′ out′ answer S′
     accepts-drain work M′ out′ answer S′ z h =
-        let (_, a, _, _) = drain-accepted kind S (length (M .values)) (length (M .positions)) (M .starts) (M .lengths) (length out) z in
+        let a = drain-accepted kind S (length (M .values)) (length (M .positions)) (M .starts) (M .lengths) (length out) z .read in
         record {
           refusal = λ k. absurd (k z);
           accepted = λ _. record {

@@ -15,7 +15,7 @@ use Rattle.plan_record.specs.Inner.{Small}
 use Rattle.plan_record.specs.Plan.{unused, used, cellsNeeded, recordsNeeded, planAhead}
 use Rattle.memory.specs.Memory.{Memory, allSound}
 use Rattle.picture_state.specs.declared.State.{State}
-use Rattle.picture_state.specs.Numbers.{lentNumber}
+use Rattle.picture_state.specs.Numbers.{heightOf, notOpen, lentNumber}
 
 -- a plan record that rules 1 and 3 hold of
 pub record Accepted (plan : Plan) : Type 0 where
@@ -28,9 +28,11 @@ pub record StateSound (S : State) : Type 0 where
   pub plan : Accepted (S .plan)
   pub wide : 0 < S .width
   pub narrow : S .width ≤ 4096
-  pub high : 0 < S .rows
-  pub low : S .rows ≤ 65535
-  pub within : S .step ≤ S .rows + planAhead (S .plan)
+  pub high : 0 < heightOf S
+  pub low : heightOf S ≤ 4294967297
+  pub within : S .step ≤ heightOf S + planAhead (S .plan)
+  pub counted : S .step ≤ 4294967792
+  pub closed : notOpen (S .ending) ≡ true → S .rows ≤ 4294967296
 
 -- memory that is as much as needed, with sound records
 pub record Fit {A : Type 0} (S : State) (M : Memory A) : Type 0 where

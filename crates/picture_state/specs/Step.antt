@@ -13,7 +13,7 @@ use Rattle.memory.specs.Memory.{Memory, behind, allSound, Whole, Holds}
 use Rattle.picture_state.specs.declared.State.{State}
 use Rattle.picture_state.specs.declared.Answer.{Answer}
 use Rattle.picture_state.specs.declared.Answer.the-variants.{Row, NotYet, Refused}
-use Rattle.picture_state.specs.Numbers.{offerNumber, rowNumber, drainJudged}
+use Rattle.picture_state.specs.Numbers.{heightOf, offerNumber, rowNumber, drainJudged}
 
 -- ---- what an answer says
 
@@ -36,14 +36,14 @@ rowSaidAt due number comparisons = cond due (row number comparisons) (notYet com
 
 -- the state with one step more
 abbrev pub nextState : State → State
-nextState S = record { plan = S .plan; sample = S .sample; width = S .width; rows = S .rows; step = S .step + 1 }
+nextState S = record { plan = S .plan; sample = S .sample; width = S .width; ending = S .ending; rows = S .rows; step = S .step + 1 }
 
 module _ {A : Type 0} (K : Samples A) where
   -- Step t of state S with the row as it is read. The state has one step more, the lent slices are as long as they were, "lent cells and records past the number needed are
   -- never written", and the records are such as the next step takes. The answer is the row's number t - D where that is due, and then the output row is that row; else it is
-  -- not yet, and the output row stays as it stood. And for every picture of the state's size whose first t steps could have left this memory, and whose row t is the row
-  -- given while there are rows: the memory holds what t + 1 steps leave (condition 3), the comparisons are document 01's, and the row that came out is row t - D of the
-  -- plan applied to the whole picture (condition 2).
+  -- not yet, and the output row stays as it stood. And for every picture of the state's width and of as many rows as the step knows of, whose first t steps could have left
+  -- this memory, and whose row t is the row given while there are rows: the memory holds what t + 1 steps leave (condition 3), the comparisons are document 01's, and the row
+  -- that came out is row t - D of the plan applied to the whole picture (condition 2). Before the stop of an open run the picture is the rows so far, row t its last.
   pub record Advanced (S : State) (M : Memory A) (pixels out : List A) (M′ : Memory A) (out′ : List A) (answer : Answer) (S′ : State) : Type 0 where
     pub comparisons : ℕ
     pub said : rowSaidOf answer ≡ rowSaidAt (leb (planAhead (S .plan)) (S .step)) (S .step - planAhead (S .plan)) comparisons
@@ -56,7 +56,7 @@ module _ {A : Type 0} (K : Samples A) where
     pub sound : allSound (S .width) (used (S .plan)) (M′ .starts) (M′ .lengths) ≡ true
     pub early : S .step < planAhead (S .plan) → out′ ≡ out
     pub told :
-        (p : Picture A) → Whole K (S .width) (S .rows) p → Holds K (used (S .plan)) (S .width) p (S .step) M → (S .step < S .rows → pixels ≡ getD p (S .step) [])
+        (p : Picture A) → Whole K (S .width) (heightOf S) p → Holds K (used (S .plan)) (S .width) p (S .step) M → (S .step < heightOf S → pixels ≡ getD p (S .step) [])
         → Holds K (used (S .plan)) (S .width) p (S .step + 1) M′
         × (comparisons ≡ planCost (stagesOf (K .order) (S .plan)) (S .width) p (S .step))
         × (planAhead (S .plan) ≤ S .step → out′ ≡ getD (applyPlan (stagesOf (K .order) (S .plan)) p) (S .step - planAhead (S .plan)) [])

@@ -1,11 +1,13 @@
 // Judging: the number of each call on a state, 0 where nothing is wrong.
 
 ghost use mathlib.Core.Path.{_≡_};
+ghost use mathlib.Core.Bool.{true};
 ghost use Prim.Native.Nat.{_≤_, min};
 ghost use lib.ListN.{length};
 ghost use Rattle.plan_record.specs.Plan.{used, recordNumber, recordsNeeded};
 ghost use Rattle.memory.specs.Memory.{allSound};
-ghost use Rattle.picture_state.specs.Numbers.{memoryNumber, stateNumber, sharedNumber, offerNumber, drainNumber};
+ghost use Rattle.picture_state.specs.Numbers.{sizeIn, stepOff, allRead, pastLast, noDrain, notOpen, memoryNumber, stateNumber, sharedNumber, offerNumber, drainNumber};
+use crate::Ending;
 use crate::State;
 use plan_record::Plan;
 
@@ -23,8 +25,64 @@ pub fn judge_memory(plan: Plan, width: usize, cells: usize, records: usize) -> u
     0
 }
 
+// ---- the state's own fields
+
+// 0, or 4: for the width, and the rows read when the stop was said.
+fn judge_read(width: usize, rows: usize) -> u8
+    ensures { λ r. ⌜ r ≡ sizeIn Ending.Stopped width rows ⌝ }
+{
+    let number = plan_record::judge_size(width, 1);
+    if number != 0 {
+        return number;
+    }
+    if rows == 0 {
+        return 4;
+    }
+    if 4294967296 < rows {
+        return 4;
+    }
+    0
+}
+
+// 0, or 4: for the width, and for the rows where they count.
+fn judge_size(state: State) -> u8
+    ensures { λ r. ⌜ r ≡ sizeIn (state .ending) (state .width) (state .rows) ⌝ }
+{
+    let ending = state.ending;
+    match ending {
+        Ending::Fixed => plan_record::judge_size(state.width, state.rows),
+        Ending::Open => plan_record::judge_size(state.width, 1),
+        Ending::Stopped => judge_read(state.width, state.rows),
+    }
+}
+
+// Whether the step count is none that a run has, of a plan with that look-ahead.
+fn step_off(state: State, ahead: usize) -> bool
+    requires { ⌜ (notOpen (state .ending) ≡ true → state .rows ≤ 4294967296) × (ahead ≤ 496) ⌝ }
+    ensures { λ r. ⌜ r ≡ stepOff (state .ending) (state .rows) ahead (state .step) ⌝ }
+{
+    let ending = state.ending;
+    match ending {
+        Ending::Fixed => state.rows + ahead < state.step,
+        Ending::Open => 4294967296 < state.step,
+        Ending::Stopped => (state.step < state.rows) | (state.rows + ahead < state.step),
+    }
+}
+
+// Whether the run is not open: its rows are counted, or its stop was said.
+pub fn not_open(state: State) -> bool
+    ensures { λ r. ⌜ r ≡ notOpen (state .ending) ⌝ }
+{
+    let ending = state.ending;
+    match ending {
+        Ending::Fixed => true,
+        Ending::Open => false,
+        Ending::Stopped => true,
+    }
+}
+
 // 0, or 12: for the state's own fields.
-fn judge_state(state: State) -> u8
+pub fn judge_state(state: State) -> u8
     ensures { λ r. ⌜ r ≡ stateNumber state ⌝ }
 {
     let plan = state.plan;
@@ -34,14 +92,16 @@ fn judge_state(state: State) -> u8
     if plan_record::judge_sample(state.sample) != 0 {
         return 12;
     }
-    if plan_record::judge_size(state.width, state.rows) != 0 {
+    if judge_size(state) != 0 {
         return 12;
     }
-    if state.rows + plan_record::look_ahead(plan) < state.step {
+    if step_off(state, plan_record::look_ahead(plan)) {
         return 12;
     }
     0
 }
+
+// ---- what every call judges
 
 // Whether all column records of all stages are sound.
 fn records_sound<'a>(plan: Plan, width: usize, starts: &'a [u8], lengths: &'a [u8]) -> bool
@@ -104,6 +164,45 @@ pub fn shorter(a: usize, b: usize) -> usize
     if a < b { a } else { b }
 }
 
+// ---- a row and a drain
+
+// Whether all rows have been read.
+fn all_read(state: State) -> bool
+    ensures { λ r. ⌜ r ≡ allRead (state .ending) (state .rows) (state .step) ⌝ }
+{
+    let ending = state.ending;
+    match ending {
+        Ending::Fixed => state.rows <= state.step,
+        Ending::Open => false,
+        Ending::Stopped => true,
+    }
+}
+
+// Whether the last row that has a number has been read.
+fn past_last(state: State) -> bool
+    ensures { λ r. ⌜ r ≡ pastLast (state .ending) (state .step) ⌝ }
+{
+    let ending = state.ending;
+    match ending {
+        Ending::Fixed => false,
+        Ending::Open => 4294967296 <= state.step,
+        Ending::Stopped => false,
+    }
+}
+
+// Whether no output is left to drain, of a plan with that look-ahead, or not all rows are read.
+fn no_drain(state: State, ahead: usize) -> bool
+    requires { ⌜ (notOpen (state .ending) ≡ true → state .rows ≤ 4294967296) × (ahead ≤ 496) ⌝ }
+    ensures { λ r. ⌜ r ≡ noDrain (state .ending) (state .rows) ahead (state .step) ⌝ }
+{
+    let ending = state.ending;
+    match ending {
+        Ending::Fixed => (state.step < state.rows) | (state.rows + ahead <= state.step),
+        Ending::Open => true,
+        Ending::Stopped => (state.step < state.rows) | (state.rows + ahead <= state.step),
+    }
+}
+
 // The number of a row call, but for 8: a row and an output row of these lengths, and so many values and positions.
 pub fn judge_row<'a>(
     kind: u8,
@@ -128,8 +227,11 @@ pub fn judge_row<'a>(
     if number != 0 {
         return number;
     }
-    if state.rows <= state.step {
+    if all_read(state) {
         return 9;
+    }
+    if past_last(state) {
+        return 28;
     }
     if row != state.width {
         return 7;
@@ -163,11 +265,8 @@ pub fn judge_drain<'a>(
     if number != 0 {
         return number;
     }
-    if state.step < state.rows {
-        return 10;
-    }
     let plan = state.plan;
-    if state.rows + plan_record::look_ahead(plan) <= state.step {
+    if no_drain(state, plan_record::look_ahead(plan)) {
         return 10;
     }
     if out != state.width {

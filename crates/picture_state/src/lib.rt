@@ -1,24 +1,30 @@
-// A run of a plan over a picture: its state, how it starts, which calls on it are refused, and where a read-out's queue lies. The steps of grey and of float pictures
-// share it; crate picture hands on what a caller uses.
+// A run of a plan over a picture: its state, which calls on it are refused, and where a read-out's queue lies. The steps of grey and of float pictures
+// share it; crate picture_start starts and stops a run, and crate picture hands on what a caller uses.
 
 ghost use mathlib.Core.Path.{_≡_};
-ghost use Prim.Native.Nat.{_<_};
+ghost use Prim.Native.Nat.{_≤_};
 ghost use lib.ListN.{length};
+ghost use Rattle.picture_state.specs.Numbers.{heightOf};
 ghost use Rattle.picture_state.specs.Step.{rowSaidOf, row, notYet, refused, nextState};
 use plan_record::Plan;
 
-mod begin; // begin.rt: starting a run
 pub mod judging; // judging.rt: which calls are refused
 pub mod place; // place.rt: where a read-out's queue lies
 
-pub use begin::start;
-pub use begin::start_numbers;
+// How a run ends: after rows that are counted at its start, or where its stop is said, which is still to come or was.
+pub enum Ending {
+    Fixed,
+    Open,
+    Stopped,
+}
 
-// A run of a plan over a picture: the plan, the sample kind's number, the width, the rows, and the steps done.
+// A run of a plan over a picture: the plan, the sample kind's number, the width, how it ends, the rows, and the steps done.
+// The rows are the count given; 0 while the run is open; and the rows read once it has stopped.
 pub struct State {
     pub plan: Plan,
     pub sample: u8,
     pub width: usize,
+    pub ending: Ending,
     pub rows: usize,
     pub step: usize,
 }
@@ -35,12 +41,6 @@ pub struct Stepped {
     pub state: State,
 }
 
-// What a start gives: 0 and the state before the first step, or a refusal's number and all zeros.
-pub struct Started {
-    pub number: u8,
-    pub state: State,
-}
-
 // A plan as it is: a record of 16 stages.
 pub fn whole(plan: Plan) -> Plan
     ensures { λ r. ⌜ (r ≡ plan) × (length (plan .stages) ≡ 16) ⌝ }
@@ -48,9 +48,22 @@ pub fn whole(plan: Plan) -> Plan
     plan
 }
 
+// The rows that a step on this state knows of: while the run is open, the rows read and the one that is offered.
+pub fn height(state: State) -> usize
+    requires { ⌜ state .step ≤ 4294967792 ⌝ }
+    ensures { λ r. ⌜ r ≡ heightOf state ⌝ }
+{
+    let ending = state.ending;
+    match ending {
+        Ending::Fixed => state.rows,
+        Ending::Open => state.step + 1,
+        Ending::Stopped => state.rows,
+    }
+}
+
 // The state with one step more.
 pub fn moved(state: State) -> State
-    requires { ⌜ state .step < 66031 ⌝ }
+    requires { ⌜ state .step ≤ 4294967792 ⌝ }
     ensures { λ r. ⌜ r ≡ nextState state ⌝ }
 {
     let t = state.step;

@@ -1,9 +1,9 @@
 // Where a read-out's queue lies.
 
 ghost use mathlib.Core.Path.{_≡_};
-ghost use Prim.Native.Nat.{_≤_, _<_};
+ghost use Prim.Native.Nat.{_+_, _-_, _≤_, _<_, min};
 ghost use lib.ListN.{getD, take};
-ghost use Rattle.plan_record.specs.Plan.{unused, sizeOf, cellsOf, total};
+ghost use Rattle.plan_record.specs.Plan.{unused, sizeOf, belowOf, cellsOf, total};
 ghost use Rattle.picture_state.specs.Inner.{Accepted, placedNumber};
 use crate::State;
 use crate::judging::judge;
@@ -61,4 +61,20 @@ pub fn part_of(plan: Plan, stage: usize, width: usize) -> Part
         cells: plan_record::cells(before, width),
         places: plan_record::size_of(own),
     }
+}
+
+// The steps that a stage of the plan has done of its own, after t steps over so many rows.
+pub fn own_steps(plan: Plan, stage: usize, rows: usize, t: usize) -> usize
+    requires { ⌜ Accepted plan × (stage < plan .count) × (rows ≤ 4294967297) ⌝ }
+    ensures { λ r. ⌜ (r ≡ min (t - total belowOf (take stage (plan .stages))) (rows + belowOf (getD (plan .stages) stage unused))) × (r ≤ 4294967800) ⌝ }
+{
+    let own = plan.stages[stage];
+    let last = rows + plan_record::below(own);
+    let mut before = plan;
+    before.count = stage;
+    let ahead = plan_record::look_ahead(before);
+    if t < ahead {
+        return 0;
+    }
+    shorter(t - ahead, last)
 }

@@ -13,7 +13,7 @@ use lib.Seq.{length-take-le, take-add, take-at, drop-at}
 use Rattle.morph.proofs.Lists.{split}
 use Rattle.plan_record.specs.Plan.{planAhead}
 use Rattle.picture_state.specs.declared.State.{State}
-use Rattle.picture_state.specs.Start.{noState}
+use Rattle.picture_start.specs.Start.{noState}
 use Rattle.picture_state.proofs.Step.{judged-fit}
 use Rattle.job_read.specs.Layout.{sampleBytes}
 use Rattle.answer.specs.Answer.{answerOf}

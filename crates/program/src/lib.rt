@@ -90,7 +90,7 @@ fn go(
     came: &mut [f32],
     greys: &mut [u8],
     rates: &mut [f32],
-    positions: &mut [u16],
+    positions: &mut [u8],
     starts: &mut [u8],
     lengths: &mut [u8],
     total: &mut usize,
@@ -189,7 +189,7 @@ fn floats() -> [f32; 4096]
     [0.0; 4096]
 }
 
-fn positions() -> [u16; 4096]
+fn positions() -> [u8; 4096]
     ensures { λ r. ⌜ 4096 ≡ length r ⌝ }
 {
     [0; 4096]

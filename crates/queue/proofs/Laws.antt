@@ -21,7 +21,7 @@ use Rattle.morph.proofs.Ring.{wrap-low, wrap-lt, wrap-add, ring-length, ring-at
 use Rattle.morph.specs.declared.Kind.{Kind}
 use Rattle.sample.specs.Samples.{Samples}
 use Rattle.queue.specs.Queue.{listed}
-use Rattle.queue.specs.Inner.{goesOf, Roomed, Pushed}
+use Rattle.queue.specs.Inner.{goesOf, Roomed}
 use Rattle.queue.specs.declared.Room.{Room}
 
 ruleset tests = (arith, leb-true, leb-false, eqb-true, eqb-false)
@@ -67,18 +67,18 @@ module _ {A : Type 0} where
     listed-front O start zero h k = absurd (omega arith)
     listed-front O start (suc count) h k = ap (λ j. getD vs j blank) (ap (wrap n) (add-zero start) ∙ wrap-low n start h)
 
-    listed-drop : (start count gone : ℕ) → start < n → count ≤ n → gone ≤ 1 → gone ≤ count → entries blank n (wrap n (start + gone)) (count - gone) vs ps ≡ drop gone (entries blank n start count vs ps)
+    pub listed-drop : (start count gone : ℕ) → start < n → count ≤ n → gone ≤ 1 → gone ≤ count → entries blank n (wrap n (start + gone)) (count - gone) vs ps ≡ drop gone (entries blank n start count vs ps)
     unfolding entries
     listed-drop start count zero h k g m = rw (add-zero, wrap-low n start h, sub-zero)
     listed-drop start zero (suc gone) h k g m = absurd (omega arith)
     listed-drop start (suc count) (suc gone) h k g m =
         let z : gone ≡ 0 = omega arith in let o : suc count - 1 ≡ count = omega arith in rw (z, o) (sym (ring-drop n start (cellAt blank vs ps) count h k))
 
-    listed-take : (start count kept : ℕ) → kept ≤ count → take kept (entries blank n start count vs ps) ≡ entries blank n start kept vs ps
+    pub listed-take : (start count kept : ℕ) → kept ≤ count → take kept (entries blank n start count vs ps) ≡ entries blank n start kept vs ps
     unfolding entries
     listed-take start count kept i = ring-take n start (cellAt blank vs ps) count kept i
 
-    first-position : (start count : ℕ) → start < n → (getD (entries blank n start count vs ps) 0 (record { value = blank; position = getD ps start 0 })) .position ≡ getD ps start 0
+    pub first-position : (start count : ℕ) → start < n → (getD (entries blank n start count vs ps) 0 (record { value = blank; position = getD ps start 0 })) .position ≡ getD ps start 0
     unfolding entries ring
     first-position start zero h = refl
     first-position start (suc count) h = ap (λ j. getD ps j 0) (ap (wrap n) (add-zero start) ∙ wrap-low n start h)
@@ -182,16 +182,3 @@ room-stored K kind w t v vs ps start count r h l e =
     let z : length (set vs (r .at) v) ≡ length vs = simp length-set in
     rw (z, listed-push (K .order .blank) (length vs) vs ps (r .start) (r .count) (r .at) v t (h .below) (omega (arith, h .fits)) (omega arith) (omega arith) (h .behind) (h .inside))
     (rw listed-length (ap (λ q. q ++ (record { value = v; position = t } ∷ [])) (h .stays)))
-
-pub room-pushed : {A : Type 0} (K : Samples A) (kind : Kind) (t : ℕ) (v : A) (vs : List A) (ps : List ℕ) (start count : ℕ) (r : Room) → Roomed K kind (length vs) t v vs ps start count r
-    → length ps ≡ length vs
-    → Pushed K kind t v vs ps start count (set vs (r .at) v) (set ps (r .at) t) (record { start = r .start; count = r .count + 1; comparisons = r .comparisons })
-room-pushed K kind t v vs ps start count r h e = record {
-  below = h .below;
-  fits = omega (arith, h .fits);
-  values-long = simp length-set;
-  positions-long = simp length-set;
-  next = room-stored K kind (length vs) t v vs ps start count r h (omega arith) e;
-  counted = h .counted;
-  few = h .few;
-}

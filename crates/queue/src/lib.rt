@@ -3,10 +3,11 @@
 // so a step costs the same whatever the window.
 
 ghost use mathlib.Core.Path.{_≡_};
-ghost use Prim.Native.Nat.{_+_, _-_, _≤_, _<_, min};
+ghost use Prim.Native.Nat.{_+_, _-_, _%_, _≤_, _<_, min};
 ghost use lib.ListN.{length, getD};
 ghost use Rattle.morph.specs.Ring.{wrap};
-ghost use Rattle.queue.specs.Inner.{goesOf};
+ghost use Rattle.morph.specs.Cell.{ageOf, rowOf};
+ghost use Rattle.queue.specs.Inner.{goesOf, cellGoesOf};
 
 // How many entries a new value leaves unpassed, and the place behind them.
 pub struct Kept {
@@ -84,4 +85,51 @@ pub fn any(n: usize) -> usize
     ensures { λ r. ⌜ r ≡ min 1 n ⌝ }
 {
     if 0 < n { 1 } else { 0 }
+}
+
+// ---- rows in lent cells
+
+// What a cell keeps of a row's number.
+pub fn remainder(t: usize) -> u8
+    ensures { λ r. ⌜ r ≡ t % 128 ⌝ }
+{
+    (t % 128) as u8
+}
+
+// How far before row s the nearest row stands of which a cell keeps r: 1 to 128.
+fn age(s: usize, r: u8) -> usize
+    requires { ⌜ s ≤ 4294967800 ⌝ }
+    ensures { λ a. ⌜ (a ≡ ageOf s r) × (a ≤ 128) × (0 < a) ⌝ }
+{
+    (s + 255 - morph::wide(r) % 128) % 128 + 1
+}
+
+// The number of that row, s being the steps done.
+pub fn row_of(s: usize, r: u8) -> usize
+    requires { ⌜ s ≤ 4294967800 ⌝ }
+    ensures { λ n. ⌜ n ≡ rowOf s r ⌝ }
+{
+    if 128 <= r {
+        return s;
+    }
+    let a = age(s, r);
+    if a <= s { s - a } else { s }
+}
+
+// How many of the oldest entries go at step t, none or one, so that there is room for one more.
+pub fn cell_goes(positions: &[u8], start: usize, count: usize, window: usize, t: usize) -> usize
+    requires { ⌜ (start < length (now positions)) × (0 < window) × (window ≤ 63) × (count ≤ window) × (t ≤ 4294967800) ⌝ }
+    ensures { λ r. ⌜ (r ≡ cellGoesOf window t count (getD (now (positions .entry)) start 0)) × (r ≤ 1) × (r ≤ count) × (count - r < window) ⌝ }
+{
+    if count == 0 {
+        return 0;
+    }
+    if window <= count {
+        return 1;
+    }
+    let leaves = remainder(t + 128 - window);
+    if positions[start] == leaves {
+        return 1;
+    }
+    0
 }

@@ -7,7 +7,7 @@ struct Greys {
     state: State,
     out: [u8; 3],
     values: [u8; 21],
-    positions: [u16; 21],
+    positions: [u8; 21],
     starts: [u8; 9],
     lengths: [u8; 9],
 }
@@ -75,7 +75,7 @@ fn place(r: Greys, stage: usize, column: usize, place: usize) -> bool {
             show::text(b" ");
             show::byte(e.value);
             show::text(b"@");
-            show::position(e.position);
+            show::number(e.position);
             true
         }
         ReadOut::Refused(number) => {

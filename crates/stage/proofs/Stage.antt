@@ -1,29 +1,31 @@
 -- The laws of a stage's own step: reading a row, draining, and the row that is due. By which idea: each column is a line over the across-results (`columnQueue`), and its
 -- front after step y + F is the stage's answer in row y (`stage-front`).
-use mathlib.Core.Path.{_≡_, refl, sym, ap, _∙_}
+use mathlib.Core.Path.{_≡_, refl, sym, ap, _∙_, subst}
 use mathlib.Core.Bool.{true}
-use mathlib.Core.List.{List, []}
-use Prim.Native.Nat.{ℕ, zero, suc, _+_, _-_, _*_, _≤_, _<_, min}
+use mathlib.Core.List.{List, [], map}
+use Prim.Native.Nat.{ℕ, suc, _+_, _-_, _*_, _≤_, _<_, min}
 use native.Mathlib.Omega.{arith}
 use borrow.Author.Tests.{lt-ltb}
-use lib.ListN.{length, getD}
+use lib.ListN.{length, getD, length-map}
 use lib.Seq.{ext-getD}
 use Rattle.morph.specs.declared.Kind.{Kind}
 use Rattle.morph.specs.declared.Kind.the-variants.{Erosion, Dilation}
 use Rattle.morph.specs.Order.{Order, orderOf, backOf, aheadOf}
 use Rattle.morph.specs.Lists.{Each, tabulate, sumTo}
-use Rattle.morph.specs.Line.{filterLine, front, lineCost, lineCosts}
+use Rattle.morph.specs.Line.{Entry, filterLine, front, lineCost, lineCosts}
+use Rattle.morph.specs.Cell.{readAt}
 use Rattle.morph.specs.Picture.{Picture, Stage as Filter, applyStage, across, column}
 use Rattle.morph.specs.Plan.{window, columnQueue, stageCost}
-use Rattle.morph.specs.Inner.{roomed, stepCost}
-use Rattle.morph.proofs.Lists.{each-in, each-getD, each-map, in-each, length-tabulate, getD-tabulate}
+use Rattle.morph.specs.Inner.{roomed, stepped, stepCost, cellsRoomed}
+use Rattle.morph.proofs.Lists.{each-in, each-getD, each-map, in-each, length-tabulate, getD-tabulate, sumTo-same}
 use Rattle.morph.proofs.Line.{queue-some, length-line, line-each}
 use Rattle.morph.proofs.Step.{step-drain}
+use Rattle.morph.proofs.Cell.{Fresh, held-fresh, cost-read, front-read, cells-stepped, cells-drained}
 use Rattle.morph.proofs.Picture.{stage-wide, stage-length}
 use Rattle.morph.proofs.Plan.{stage-front, across-at, column-length, stage-cost-drain}
 use Rattle.sample.specs.Samples.{Samples}
 use Rattle.queue.proofs.Steps.{next-queue, next-cost}
-use Rattle.columns.specs.Inner.{Lent, RecordsMoved, reads, RowRead, frontAt}
+use Rattle.columns.specs.Inner.{Lent, RecordsMoved, RowRead, frontAt}
 use Rattle.memory.specs.Memory.{Memory, memory, columnAt, Whole, StageHolds}
 use Rattle.columns.proofs.Column.{front-column}
 use Rattle.plan_record.specs.declared.Stage.{Stage}
@@ -50,10 +52,6 @@ size-window O s = go (s .kind)
     go : (kind : Kind) → backOf kind (s .up) (s .down) + aheadOf kind (s .up) (s .down) + 1 ≡ s .up + s .down + 1
     go Erosion = refl
     go Dilation = omega arith
-
-sumTo-same : (n : ℕ) (f g : ℕ → ℕ) → ((x : ℕ) → x < n → f x ≡ g x) → sumTo n f ≡ sumTo n g
-sumTo-same zero f g h = refl
-sumTo-same (suc n) f g h = cc (sumTo-same n f g (λ x l. h x (omega arith)), h n (omega arith))
 
 module _ {A : Type 0} (K : Samples A) (s : Stage) (W H : ℕ) (p : Picture A) (whole : Whole K W H p) where
   abbrev O : Order A
@@ -86,7 +84,7 @@ module _ {A : Type 0} (K : Samples A) (s : Stage) (W H : ℕ) (p : Picture A) (w
     pixel-read : (x : ℕ) → getD row x (K .order .blank) ≡ getD (line x) t (K .order .blank)
     pixel-read x = ap (λ r. getD r x (K .order .blank)) e ∙ sym (across-at S x p t)
 
-    column-next : (x : ℕ) → x < W → reads K (s .kind) (sizeOf s) t (getD row x (K .order .blank)) (columnQueue S x p t) ≡ columnQueue S x p (suc t)
+    column-next : (x : ℕ) → x < W → stepped (K .passes (s .kind) (getD row x (K .order .blank))) (sizeOf s) t (getD row x (K .order .blank)) (columnQueue S x p t) ≡ columnQueue S x p (suc t)
     unfolding columnQueue
     column-next x h =
         rw (← size-window (K .order) s)
@@ -103,39 +101,57 @@ module _ {A : Type 0} (K : Samples A) (s : Stage) (W H : ℕ) (p : Picture A) (w
   done t = min t (length p + F)
 
   module _ (t : ℕ) (M M′ : Memory A) (holds : StageHolds K s W p t M) where
+    -- column x's cells, as they stand
+    abbrev cells : ℕ → List (Entry A)
+    cells x = columnAt K (sizeOf s) (M .values) (M .positions) (M .starts) (M .lengths) x
+
+    -- before the stage's last step they are read at step t as its queue then, and each entry is one of the window
+    held : t ≤ H + F → (x : ℕ) → x < W → map (readAt t) (cells x) ≡ columnQueue S x p t
+    held l x h = let m : done t ≡ t = omega (arith, whole .high) in rw m at (holds x h)
+
+    fresh : t ≤ H + F → (x : ℕ) → x < W → Each (Fresh (sizeOf s) t) (cells x)
+    unfolding columnQueue
+    fresh l x h = subst (λ w. Each (Fresh w t) (cells x)) (size-window (K .order) s) (held-fresh O (window S) (line x) t (cells x) (held l x h))
+
     -- the stage's row t comes in, has been filtered across, and is read by the columns
     module _ (l : t < H) (row : List A) (c r : ℕ) (read : RowRead K (s .kind) (sizeOf s) t row (M .values) (M .positions) (M .starts) (M .lengths) (M′ .values) (M′ .positions) (M′ .starts) (M′ .lengths) r)
         (long : length row ≡ W) (e : row ≡ filterLine O (S .back) (S .ahead) (getD p t [])) (a : c ≡ lineCosts O (S .back + S .ahead + 1) (getD p t []) W) where
-      held : (x : ℕ) → x < W → columnAt K (sizeOf s) (M .values) (M .positions) (M .starts) (M .lengths) x ≡ columnQueue S x p t
-      held x h = let m : done t ≡ t = omega (arith, whole .high) in holds x h ∙ ap (columnQueue S x p) m
-
       pub read-holds : StageHolds K s W p (t + 1) M′
       read-holds x h =
-          let m : suc t ≡ done (t + 1) = omega (arith, whole .high) in
-          read .moved .each x (rw long h) ∙ ap (reads K (s .kind) (sizeOf s) t (getD row x (K .order .blank))) (held x h) ∙ column-next t l row e x h ∙ ap (columnQueue S x p) m
+          let m : done (t + 1) ≡ suc t = omega (arith, whole .high) in
+          let v = getD row x (K .order .blank) in
+          rw m
+          (ap (map (readAt (suc t))) (read .moved .each x (rw long h))
+          ∙ cells-stepped (K .passes (s .kind) v) (sizeOf s) t v (cells x) (omega arith) (omega (arith, read .moved .lent .places)) (fresh (omega arith) x h)
+          ∙ ap (stepped (K .passes (s .kind) v) (sizeOf s) t v) (held (omega arith) x h)
+          ∙ column-next t l row e x h)
 
       pub read-cost : c + r ≡ stageCost S W p t
       unfolding stageCost
       read-cost =
           let q : r ≡ sumTo W (λ x. lineCost O (window S) (line x) t) =
-          read .counted
-          ∙ ap (λ n. sumTo n (λ x. stepCost (K .passes (s .kind) (getD row x (K .order .blank))) (columnAt K (sizeOf s) (M .values) (M .positions) (M .starts) (M .lengths) x))) long
-          ∙ sumTo-same W _ _ (λ x h. ap (stepCost (K .passes (s .kind) (getD row x (K .order .blank)))) (held x h) ∙ column-cost t l row e x h) in
+          read .counted ∙ ap (λ n. sumTo n (λ x. stepCost (K .passes (s .kind) (getD row x (K .order .blank))) (cells x))) long
+          ∙ sumTo-same W _ _ (λ x h.
+          let f = K .passes (s .kind) (getD row x (K .order .blank)) in
+          sym (cost-read f t (cells x)) ∙ ap (stepCost f) (held (omega arith) x h) ∙ column-cost t l row e x h) in
           rw (lt-ltb t (length p) (omega (arith, whole .high)), a, q)
 
     -- no row is left, and the columns age
-    pub drain-holds : H ≤ t → t < H + F → ((x : ℕ) → x < W → columnAt K (sizeOf s) (M′ .values) (M′ .positions) (M′ .starts) (M′ .lengths) x ≡ roomed (sizeOf s) t (columnAt K (sizeOf s) (M .values) (M .positions) (M .starts) (M .lengths) x))
+    pub drain-holds : H ≤ t → t < H + F → sizeOf s ≤ 63
+        → ((x : ℕ) → x < W → columnAt K (sizeOf s) (M′ .values) (M′ .positions) (M′ .starts) (M′ .lengths) x ≡ cellsRoomed (sizeOf s) t (cells x))
         → StageHolds K s W p (t + 1) M′
     unfolding columnQueue
-    drain-holds l k moved x h =
-        let m : done t ≡ t = omega (arith, whole .high) in
-        let n : suc t ≡ done (t + 1) = omega (arith, whole .high) in
-        moved x h ∙ ap (roomed (sizeOf s) t) (holds x h ∙ ap (columnQueue S x p) m)
-        ∙ rw (← size-window (K .order) s) (step-drain O (window S) (line x) t (omega arith) (rw line-long l)) ∙ ap (columnQueue S x p) n
+    drain-holds l k small moved x h =
+        let m : done (t + 1) ≡ suc t = omega (arith, whole .high) in
+        rw m
+        (ap (map (readAt (suc t))) (moved x h)
+        ∙ cells-drained (sizeOf s) t (cells x) (omega arith) (omega arith) (fresh (omega arith) x h)
+        ∙ ap (roomed (sizeOf s) t) (held (omega arith) x h)
+        ∙ rw (← size-window (K .order) s) (step-drain O (window S) (line x) t (omega arith) (rw line-long l)))
 
   -- the stage has done its last step, and its queues stay
   pub done-holds : (t : ℕ) (M : Memory A) → H + F ≤ t → StageHolds K s W p t M → StageHolds K s W p (t + 1) M
-  done-holds t M l holds x h = let m : done t ≡ done (t + 1) = omega (arith, whole .high) in holds x h ∙ ap (columnQueue S x p) m
+  done-holds t M l holds x h = let m : done (t + 1) ≡ done t = omega (arith, whole .high) in rw m (holds x h)
 
   pub drain-cost : (t : ℕ) → H ≤ t → 0 ≡ stageCost S W p t
   drain-cost t l = sym (stage-cost-drain S W p (whole .wide) t (omega (arith, whole .high)))
@@ -147,8 +163,10 @@ module _ {A : Type 0} (K : Samples A) (s : Stage) (W H : ℕ) (p : Picture A) (w
   front-told t M holds a b below x h =
       let n : t - F + F + 1 ≡ done (t + 1) = omega (arith, whole .high) in
       let some = queue-some O (window S) (line x) (done (t + 1)) (omega arith) (omega arith) (rw line-long (omega (arith, whole .high))) in
-      front-column K (sizeOf s) x (M .values) (M .positions) (M .starts) (M .lengths) O (below x h) (rw (holds x h) some)
-      ∙ ap (front O) (holds x h ∙ ap (columnQueue S x p) (sym n))
+      let q = columnAt K (sizeOf s) (M .values) (M .positions) (M .starts) (M .lengths) x in
+      let long : 0 < length q = rw (← holds x h, length-map q) at some in
+      front-column K (sizeOf s) x (M .values) (M .positions) (M .starts) (M .lengths) O (below x h) long
+      ∙ sym (front-read O (done (t + 1)) q) ∙ ap (front O) (holds x h ∙ ap (columnQueue S x p) (sym n))
 
   -- the fronts after step t are the stage's row t - F
   pub fronts-row : (t : ℕ) (M : Memory A) → StageHolds K s W p (t + 1) M → F ≤ t → t < H + F
@@ -181,7 +199,7 @@ module _ {A : Type 0} (K : Samples A) (s : Stage) (H t : ℕ) (M : Memory A) (ro
             );
       }
 
-  pub drained-moved : (ss ls : List ℕ) → H ≤ t → t < H + belowOf s → length (M .starts) ≡ length row → RecordsMoved K (sizeOf s) (length (M .starts)) (λ _. roomed (sizeOf s) t) (M .positions) (M .starts) (M .lengths) ss ls
+  pub drained-moved : (ss ls : List ℕ) → H ≤ t → t < H + belowOf s → length (M .starts) ≡ length row → RecordsMoved K (sizeOf s) (length (M .starts)) (λ _. cellsRoomed (sizeOf s) t) (M .positions) (M .starts) (M .lengths) ss ls
       → StageMoved K s H t M row (memory (M .values) (M .positions) ss ls) row 0
   drained-moved ss ls l k w h = record {
     values-long = refl;
@@ -189,7 +207,7 @@ module _ {A : Type 0} (K : Samples A) (s : Stage) (H t : ℕ) (M : Memory A) (ro
     row-long = refl;
     few = omega arith;
     told = λ p whole holds e. (
-      drain-holds K s (length row) H p whole t M (memory (M .values) (M .positions) ss ls) holds l k (λ x i. h (M .values) .each x (rw w i)),
+      drain-holds K s (length row) H p whole t M (memory (M .values) (M .positions) ss ls) holds l k (h (M .values) .lent .places) (λ x i. h (M .values) .each x (rw w i)),
       drain-cost K s (length row) H p whole t l,
     );
   }

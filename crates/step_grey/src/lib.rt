@@ -13,7 +13,7 @@ pub fn take(
     bytes: &[u8],
     frame: &mut [u8],
     values: &mut [u8],
-    positions: &mut [u16],
+    positions: &mut [u8],
     starts: &mut [u8],
     lengths: &mut [u8],
 ) -> Stepped

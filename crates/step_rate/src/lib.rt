@@ -18,7 +18,7 @@ fn step(
     row: &mut [f32],
     came: &mut [f32],
     values: &mut [f32],
-    positions: &mut [u16],
+    positions: &mut [u8],
     starts: &mut [u8],
     lengths: &mut [u8],
 ) -> Stepped
@@ -59,7 +59,7 @@ pub fn take(
     row: &mut [f32],
     came: &mut [f32],
     values: &mut [f32],
-    positions: &mut [u16],
+    positions: &mut [u8],
     starts: &mut [u8],
     lengths: &mut [u8],
 ) -> Stepped

@@ -22,11 +22,12 @@ use Rattle.plan_record.proofs.Named.{judged-reading}
 use Rattle.plan_record.proofs.Numbers.{size-accepted}
 use Rattle.memory.specs.Memory.{memory}
 use Rattle.picture_state.specs.declared.State.{State}
-use Rattle.picture_state.specs.declared.Started.{Started}
-use Rattle.picture_state.specs.Numbers.{memoryNumber, startNumber, stateNumber}
-use Rattle.picture_state.specs.Start.{firstState, PictureStart}
+use Rattle.picture_start.specs.declared.Started.{Started}
+use Rattle.picture_state.specs.declared.Ending.the-variants.{Fixed}
+use Rattle.picture_state.specs.Numbers.{memoryNumber, stateNumber}
+use Rattle.picture_start.specs.Start.{startNumber, firstState, PictureStart}
 use Rattle.picture_state.proofs.Numbers.{plan-accepted, ahead-few, shared-records}
-use Rattle.picture_state.proofs.Starting.{start-memory, start-first, cleared-long}
+use Rattle.picture_start.proofs.Starting.{begins-fixed, start-memory, start-first, cleared-long}
 use Rattle.job_read.specs.declared.Job.{Job}
 use Rattle.job_read.specs.Layout.{headBegins, widthFrom, rowsFrom, jobFrom}
 use Rattle.job_read.specs.Job.{planSectionNumber, headNumber, headSectionNumber}
@@ -103,7 +104,7 @@ module _ (job : Job) (fit : Fit job) where
 
   -- before the first step
   abbrev first : State
-  first = record { plan = job .plan; sample = job .sample; width = job .width; rows = job .rows; step = 0 }
+  first = record { plan = job .plan; sample = job .sample; width = job .width; ending = Fixed; rows = job .rows; step = 0 }
 
   pub first-small : (first .plan .count ≤ 16) × (first .width ≤ 4096) × (first .rows + planAhead (first .plan) ≤ 66031)
   first-small =
@@ -117,7 +118,7 @@ module _ (job : Job) (fit : Fit job) where
     zero-told = start-taken (min (length starts) (length lengths)) (omega arith)
 
     pub started : r .state ≡ first
-    started = h .accepted zero-told .0 ∙ ap (λ (p : Plan). record { plan = p; sample = job .sample; width = job .width; rows = job .rows; step = 0 }) (fit .trimmed)
+    started = h .accepted zero-told .0 ∙ ap (λ (p : Plan). record { plan = p; sample = job .sample; width = job .width; ending = Fixed; rows = job .rows; step = 0 }) (fit .trimmed)
 
     -- a machine of either kind of samples
     rows-mean : {A : Type 0} (C : Coding A) (kind : ℕ) (values : List A) (positions : List ℕ) (f : List ℕ → List ℕ) → job .sample ≡ kind → 4096 ≤ length values → 4096 ≤ length positions
@@ -127,12 +128,13 @@ module _ (job : Job) (fit : Fit job) where
         let (_, y, z) = h .accepted zero-told in
         let ls : length starts′ ≡ length starts = ap length y ∙ cleared-long (recordsNeeded (job .plan) (job .width)) starts (omega arith) in
         let ll : length lengths′ ≡ length lengths = ap length z ∙ cleared-long (recordsNeeded (job .plan) (job .width)) lengths (omega arith) in
-        let d = start-first (C .samples) (job .plan) (job .sample) (job .width) (job .rows) 4096 starts lengths starts′ lengths′ r (fit .long) h (h .told ∙ zero-told) in
+        let d = start-first (C .samples) (job .plan) (job .sample) (job .width) Fixed (job .rows) (job .rows) (begins-fixed (job .rows)) 4096 starts lengths starts′ lengths′ r (fit .long) h (h .told ∙ zero-told) in
         let m = memory-zero (job .plan) (job .width) (min (length values) (length positions)) (min (length starts′) (length lengths′)) (omega (arith, fit .cells)) (omega arith) in
         record {
           judged =
               sym (shared-records kind first (min (length values) (length positions)) (min (length starts′) (length lengths′)) starts′ lengths′ (ap stateNumber (sym started) ∙ d .judged) s true m
               (sym (d .sound)));
+          fixed = refl;
           before = [];
           whole = record { wide = tt; high = omega arith; good = tt };
           held = λ q _ _. d .holds values positions q;

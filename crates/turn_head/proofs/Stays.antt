@@ -7,7 +7,7 @@ use native.Mathlib.Omega.{arith}
 use borrow.Author.Tests.{eq-eqb}
 use lib.ListN.{length, take, length-take}
 use Rattle.picture_state.specs.declared.State.{State}
-use Rattle.picture_state.specs.Start.{noState}
+use Rattle.picture_start.specs.Start.{noState}
 use Rattle.job_read.specs.declared.Job.{Job}
 use Rattle.job_read.specs.declared.JobRead.{JobRead}
 use Rattle.job_read.specs.Job.{jobAnswered}

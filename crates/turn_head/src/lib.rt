@@ -87,7 +87,7 @@ fn begin(job: Job, bytes: &[u8], frame: &mut [u8], starts: &mut [u8], lengths: &
     ensures { λ r. ⌜ Begins (now (bytes .entry)) (now (starts .entry)) (now (lengths .entry)) (now (starts .exit)) (now (lengths .exit)) (now (frame .exit)) r ⌝ }
 {
     let plan = job.plan;
-    let started = picture_state::start(
+    let started = picture_start::start(
         plan,
         job.sample,
         job.width,

@@ -31,7 +31,7 @@ fn step(
     came: &mut [f32],
     greys: &mut [u8],
     rates: &mut [f32],
-    positions: &mut [u16],
+    positions: &mut [u8],
     starts: &mut [u8],
     lengths: &mut [u8],
 ) -> Stepped
@@ -63,7 +63,7 @@ pub fn turn(
     came: &mut [f32],
     greys: &mut [u8],
     rates: &mut [f32],
-    positions: &mut [u16],
+    positions: &mut [u8],
     starts: &mut [u8],
     lengths: &mut [u8],
 ) -> Turned

@@ -1,6 +1,6 @@
 -- A step on a row's bytes, of either kind of samples, by what its answer has the machine do: write the row, go on without, or end with the number.
 -- By which idea: nothing but 8 can be wrong with a row that is all there, and nothing with a drain.
-use mathlib.Core.Path.{_≡_, refl, sym, ap, _∙_, subst}
+use mathlib.Core.Path.{_≡_, sym, ap, _∙_, subst}
 use mathlib.Core.Bool.{Bool, true, false, cond, not}
 use mathlib.Core.List.{List, [], _∷_, _++_, map, append-nil}
 use Prim.Native.Nat.{ℕ, zero, suc, _+_, _-_, _*_, _≤_, _<_, min}
@@ -21,7 +21,7 @@ use Rattle.picture_state.specs.declared.State.{State}
 use Rattle.picture_state.specs.declared.Answer.{Answer}
 use Rattle.picture_state.specs.Numbers.{offerNumber, rowNumber}
 use Rattle.picture_state.specs.Step.{RowSaid, row, notYet, refused, rowSaidOf, nextState, Advanced, columnOf}
-use Rattle.picture_state.proofs.Numbers.{offer-all, drain-all}
+use Rattle.picture_state.proofs.Numbers.{fixed-reads, closed-drains, offer-all, drain-all}
 use Rattle.job_read.specs.Job.{missing}
 use Rattle.answer.specs.Answer.{Coding, rowGroupNumber, ending}
 use Rattle.answer.proofs.Codes.{Codes}
@@ -215,7 +215,8 @@ module _ {A : Type 0} (C : Coding A) (codes : Codes C) (kind : ℕ) (S : State) 
     comes-row here there =
         let pixels = C .read W bytes in
         let long = codes .long W bytes there in
-        let offer = offer-all kind S (length (M .values)) (length (M .positions)) (M .starts) (M .lengths) (length pixels) (length (h .out)) (r .judged) here long (h .long) in
+        let (unread, few) = fixed-reads (S .ending) H t (r .fixed) here in
+        let offer = offer-all kind S (length (M .values)) (length (M .positions)) (M .starts) (M .lengths) (length pixels) (length (h .out)) (r .judged) unread few long (h .long) in
         let number = row-judged pixels (h .out) offer in
         split (all (K .good) pixels)
         (λ e.
@@ -235,7 +236,7 @@ module _ {A : Type 0} (C : Coding A) (codes : Codes C) (kind : ℕ) (S : State) 
     -- a step without a row
     pub comes-drain : H ≤ t → t < H + D → Comes bytes M′ frame S′ 0 (rowSaidOf answer)
     comes-drain l w =
-        let z = drain-all kind S (length (M .values)) (length (M .positions)) (M .starts) (M .lengths) (length (h .out)) (r .judged) l D refl w (h .long) in
+        let z = drain-all kind S (length (M .values)) (length (M .positions)) (M .starts) (M .lengths) (length (h .out)) (r .judged) (closed-drains (S .ending) H D t (rw (r .fixed)) l w) (h .long) in
         let a = h .drained l .accepted (sym z) in
         let b = after-drain [] l in
         comes-on [] a w before b 0 (λ rest.

@@ -1,21 +1,21 @@
 -- A step keeps what the machine means. By which idea: the step's promise is told over every picture that begins with the rows read, and one such picture is those rows with
 -- the last repeated.
 use mathlib.Core.Path.{_≡_, refl, sym, ap, _∙_, subst}
-use mathlib.Core.Bool.{true, cond, not, _||_}
+use mathlib.Core.Bool.{true, cond}
 use mathlib.Core.List.{List, [], _∷_, _++_}
 use Prim.Native.Nat.{ℕ, _+_, _-_, _≤_, _<_, min}
 use native.Mathlib.Omega.{arith}
-use borrow.Author.Tests.{le-ltb, leb-true, ltb-true, ltb-false}
-use lib.Dec.{eqb, ltb, leb}
+use borrow.Author.Tests.{leb-true, ltb-true, ltb-false}
+use lib.Dec.{ltb, leb}
 use lib.ListN.{length, getD, take}
 use lib.Seq.{take-all}
+use Rattle.morph.specs.Plan.{planCost}
 use Rattle.morph.specs.Picture.{Picture, Stage as Filter, applyPlan}
-use Rattle.morph.proofs.Lists.{split, neither}
+use Rattle.morph.proofs.Lists.{split}
 use Rattle.morph.proofs.Picture.{plan-row}
 use Rattle.sample.specs.Samples.{Samples}
-use Rattle.plan_record.specs.Numbers.{sampleNumber, sizeNumber}
-use Rattle.plan_record.specs.Plan.{used, stagesOf, planAhead, recordNumber}
-use Rattle.morph.proofs.Numbers.{first-zero, given-zero}
+use Rattle.plan_record.specs.Plan.{used, stagesOf, planAhead}
+use Rattle.morph.proofs.Numbers.{first-zero}
 use Rattle.plan_record.proofs.Named.{look-ahead-plan}
 use Rattle.memory.specs.Memory.{Memory, Whole, Holds}
 use Rattle.picture_state.specs.declared.State.{State}
@@ -23,18 +23,13 @@ use Rattle.picture_state.specs.declared.Answer.{Answer}
 use Rattle.picture_state.specs.Numbers.{stateNumber, stateKindNumber, memoryNumber, recordsNumber, memoryJudged, sharedNumber}
 use Rattle.picture_state.specs.Step.{nextState, Advanced}
 use Rattle.picture_state.proofs.Numbers.{shared-accepted, shared-records}
+use Rattle.picture_state.proofs.Step.{judged-fit, state-next}
 use Rattle.answer.specs.Answer.{Coding}
 use Rattle.answer.specs.Inner.{restAnswer}
 use Rattle.answer.proofs.Rest.{Carries, rest-step}
 use Rattle.turns.specs.Inner.{RowsMean}
 
 -- ---- the memory after a step
-
-state-next : (S : State) → stateNumber S ≡ 0 → S .step < S .rows + planAhead (S .plan) → stateNumber (nextState S) ≡ 0
-unfolding stateNumber
-state-next S e l =
-    let (x, _) = neither (not (eqb (recordNumber (S .plan)) 0) || not (eqb (sampleNumber (S .sample)) 0) || not (eqb (sizeNumber (S .width) (S .rows)) 0)) _ (given-zero 11 _ e) in
-    rw (x, le-ltb (S .rows + planAhead (S .plan)) (S .step + 1) (omega arith))
 
 pub lent-parts : {A : Type 0} (kind : ℕ) (S : State) (M : Memory A) → memoryJudged kind S M ≡ 0
     → (stateNumber S ≡ 0) × (S .sample ≡ kind) × (memoryNumber (S .plan) (S .width) (min (length (M .values)) (length (M .positions))) (min (length (M .starts)) (length (M .lengths))) ≡ 0)
@@ -84,20 +79,26 @@ module _ {A : Type 0} (C : Coding A) (kind : ℕ) (S : State) (M : Memory A) (f 
     lent-next : memoryJudged kind (nextState S) M′ ≡ 0
     lent-next =
         let (_, s, m) = lent-parts kind S M (r .judged) in
+        let few = judged-fit kind S M (r .judged) .run .closed (rw (r .fixed)) in
         let v : min (length (M′ .values)) (length (M′ .positions)) ≡ min (length (M .values)) (length (M .positions)) = cc (h .values-long, h .positions-long) in
         let n : min (length (M′ .starts)) (length (M′ .lengths)) ≡ min (length (M .starts)) (length (M .lengths)) = cc (h .starts-long, h .lengths-long) in
         sym (shared-records kind (nextState S) (min (length (M′ .values)) (length (M′ .positions))) (min (length (M′ .starts)) (length (M′ .lengths))) (M′ .starts) (M′ .lengths)
-        (state-next S (lent-parts kind S M (r .judged) .0) within) s true (rw (v, n) m) (sym (h .sound)))
+        (state-next S (lent-parts kind S M (r .judged) .0) (rw (r .fixed) within) (rw (r .fixed) few)) s true (rw (v, n) m) (sym (h .sound)))
+
+    -- what the step tells of a picture with the rows before it, and row t where there is one
+    told : (p : Picture A) → Whole K W H p → take (length (r .before)) p ≡ r .before → (t < H → pixels ≡ getD p t [])
+        → Holds K (used (S .plan)) W p (t + 1) M′ × (h .comparisons ≡ planCost Ss W p t) × (D ≤ t → out′ ≡ getD (applyPlan Ss p) (t - D) [])
+    told p w b g = h .told p (rw (r .fixed) w) (r .held p w b) (rw (r .fixed) g)
 
     -- every picture that begins with the rows after the step
     held-next : (p : Picture A) → Whole K W H p → take (length after) p ≡ after → Holds K (used (S .plan)) W p (t + 1) M′
-    held-next p w e = h .told p w (r .held p w (a .back p e)) (a .row p e) .0
+    held-next p w e = told p w (a .back p e) (a .row p e) .0
 
     -- the row that came out
     came-next : D ≤ t → out′ ≡ getD (applyPlan Ss after) (t - D) []
     came-next d =
         let q = a .some in
-        let o = h .told q (a .some-whole) (r .held q (a .some-whole) (a .back q (a .some-begins))) (a .row q (a .some-begins)) .2 d in
+        let o = told q (a .some-whole) (a .back q (a .some-begins)) (a .row q (a .some-begins)) .2 d in
         let l = look-ahead-plan (K .order) (S .plan) in
         let n = a .whole .high in
         split (ltb t H)
@@ -116,7 +117,7 @@ module _ {A : Type 0} (C : Coding A) (kind : ℕ) (S : State) (M : Memory A) (f 
     pub reads-next : RowsMean C kind S′ M′ next
     reads-next =
         subst (λ T. RowsMean C kind T M′ next) (sym (h .state))
-        (record { judged = lent-next; before = after; whole = a .whole; held = held-next; tells = λ bytes. refl })
+        (record { judged = lent-next; fixed = r .fixed; before = after; whole = a .whole; held = held-next; tells = λ bytes. refl })
 
     -- and what was to be written is the row that came out, where one did, and then that
     pub same-next : (bytes bytes′ : List ℕ) → Carries C (S .plan) W H t (r .before) bytes after bytes′

@@ -13,6 +13,7 @@ use Rattle.plan_record.specs.Plan.{planAhead}
 use Rattle.memory.specs.Memory.{Memory}
 use Rattle.picture_state.specs.Inner.{StateSound}
 use Rattle.picture_state.specs.declared.State.{State}
+use Rattle.picture_state.specs.declared.Ending.the-variants.{Fixed}
 use Rattle.picture_state.specs.declared.Answer.{Answer}
 use Rattle.picture_state.specs.Numbers.{memoryJudged, rowNumber, drainJudged}
 use Rattle.picture_state.specs.Step.{RowSaid, row, notYet, refused, rowSaidOf, nextState}
@@ -34,6 +35,8 @@ use Rattle.turns.proofs.Rows.{On, Comes, short-row, tail-end, comes-row
 pub record AtRows (m : Machine) : Type 0 where
   pub wants : m .wants ≡ wantsOf (m .state)
   pub sound : StateSound (m .state)
+  pub fixed : m .state .ending ≡ Fixed
+  pub few : m .state .rows ≤ 4294967296
   pub sample : m .state .sample ≤ 1
 
 pub rows-means : (m : Machine) (L : MachineMemory) (f : List ℕ → List ℕ) → m .phase ≡ Rows → Means m L f → MeansAt Rows (m .wants) (m .state) L f
@@ -43,8 +46,8 @@ pub stands-rows : (m : Machine) (L : MachineMemory) → m .phase ≡ Rows → St
 stands-rows m L e s =
     let (w, k) = rows-means m L (s .f) e (s .means) in
     ⊎-elim
-    (λ g. record { wants = w; sound = judged-fit 0 (m .state) (greyMemory L) (g .1 .judged) .run; sample = omega (arith, g .0) })
-    (λ g. record { wants = w; sound = judged-fit 1 (m .state) (rateMemory L) (g .1 .judged) .run; sample = omega (arith, g .0) })
+    (λ g. record { wants = w; sound = judged-fit 0 (m .state) (greyMemory L) (g .1 .judged) .run; fixed = g .1 .fixed; few = judged-fit 0 (m .state) (greyMemory L) (g .1 .judged) .run .closed (rw (g .1 .fixed)); sample = omega (arith, g .0) })
+    (λ g. record { wants = w; sound = judged-fit 1 (m .state) (rateMemory L) (g .1 .judged) .run; fixed = g .1 .fixed; few = judged-fit 1 (m .state) (rateMemory L) (g .1 .judged) .run .closed (rw (g .1 .fixed)); sample = omega (arith, g .0) })
     k
 
 left-rows : (m : Machine) → m .phase ≡ Rows → leftOf m ≡ m .state .rows + planAhead (m .state .plan) + 2 - m .state .step
@@ -79,7 +82,7 @@ pub ended-turns : (m : Machine) (bytes : List ℕ) (L L′ : MachineMemory) (fra
 ended-turns m bytes L L′ frame t n p a l e h = record {
   used-there = rw (ap (λ t. t .used) (e .1)) (omega arith);
   put-there = rw (ap (λ t. t .put) (e .1)) l;
-  fewer = λ _. let w = a .sound .within in rw (ap (λ t. leftOf (t .machine)) (e .1), left-rows m p) (omega arith);
+  fewer = λ _. let w : m .state .step ≤ m .state .rows + planAhead (m .state .plan) = rw (a .fixed) at (a .sound .within) in rw (ap (λ t. leftOf (t .machine)) (e .1), left-rows m p) (omega arith);
   goes = λ f k. ended-goes frame n (m .state) e (h f k);
 }
 
@@ -117,7 +120,7 @@ module _ {A : Type 0} (C : Coding A) (codes : Codes C) (kind : ℕ) (size : samp
     pub tail-ends : S .rows + planAhead (S .plan) ≤ S .step → (rest : List ℕ) → (length bytes < wants → rest ≡ []) → f (bytes ++ rest) ≡ ending (given 14 (ltb 0 (length bytes)))
     tail-ends e rest q =
         let z = wants-tail S e in
-        let b = judged-fit kind S M (r .judged) .run .within in
+        let b : S .step ≤ S .rows + planAhead (S .plan) = rw (r .fixed) at (judged-fit kind S M (r .judged) .run .within) in
         tail-end C codes kind S M f r bytes rest (omega arith) (λ h. q (omega arith))
 
 -- what a turn with a step has to show, of a machine that means f
@@ -139,7 +142,7 @@ module _ {A : Type 0} (C : Coding A) (codes : Codes C) (kind : ℕ) (size : samp
         used-there = there;
         put-there = omega arith;
         fewer =
-            let b = judged-fit kind S′ M′ (o .reads .judged) .run .within in
+            let b : S′ .step ≤ S′ .rows + planAhead (S′ .plan) = rw (o .reads .fixed) at (judged-fit kind S′ M′ (o .reads .judged) .run .within) in
             let x = ap (λ S. S .rows + planAhead (S .plan)) (o .moved) in
             let y = ap (λ S. S .step) (o .moved) in
             omega arith;
@@ -157,7 +160,7 @@ module _ {A : Type 0} (C : Coding A) (codes : Codes C) (kind : ℕ) (size : samp
       (on-shows (1 + rowSize S′) t (subst (λ (p : ℕ). On C codes kind (m .state) M f r bytes M′ frame S′ (m .wants) (1 + p)) x o) (omega arith) (e .1))
   comes-shows frame′ t (notYet c) k o e = subst (λ l. Shows m bytes L′ f l t) (sym (e .0)) (on-shows 0 t o (omega arith) (e .1))
   comes-shows frame′ t (refused n c) k o e =
-      let w = judged-fit kind (m .state) M (r .judged) .run .within in
+      let w : m .state .step ≤ m .state .rows + planAhead (m .state .plan) = rw (r .fixed) at (judged-fit kind (m .state) M (r .judged) .run .within) in
       record {
         used-there = rw (ap (λ t. t .used) (e .1)) (omega arith);
         put-there = rw (ap (λ t. t .put) (e .1)) (omega arith);

@@ -12,6 +12,7 @@ use Rattle.morph.specs.Picture.{Picture}
 use Rattle.plan_record.specs.Plan.{used, planAhead}
 use Rattle.memory.specs.Memory.{Memory, memory, Whole, Holds}
 use Rattle.picture_state.specs.declared.State.{State}
+use Rattle.picture_state.specs.declared.Ending.the-variants.{Fixed}
 use Rattle.picture_state.specs.declared.Answer.{Answer}
 use Rattle.picture_state.specs.Numbers.{memoryJudged}
 use Rattle.picture_state.specs.Step.{RowSaid, row, notYet, refused, rowSaidOf, RowStep, DrainStep}
@@ -26,10 +27,11 @@ use Rattle.turns.specs.declared.Turned.{Turned}
 -- ---- at the rows
 
 module _ {A : Type 0} (C : Coding A) (kind : ℕ) where
-  -- The state and the memory are those after some rows were read, and what is still to be written is the rest of the answer after them. A step rests on no row that is
+  -- A job counts its rows, so that its run is fixed. The state and the memory are those after some rows were read, and what is still to be written is the rest of the answer after them. A step rests on no row that is
   -- still to come, so the memory holds what those steps leave of every picture that begins with the rows.
   pub record RowsMean (S : State) (M : Memory A) (f : List ℕ → List ℕ) : Type 0 where
     pub judged : memoryJudged kind S M ≡ 0
+    pub fixed : S .ending ≡ Fixed
     pub before : Picture A
     pub whole : Whole (C .samples) (S .width) (min (S .step) (S .rows)) before
     pub held :

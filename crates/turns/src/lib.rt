@@ -4,10 +4,11 @@ ghost use mathlib.Core.Path.{_≡_};
 ghost use mathlib.Core.Bool.{true, false};
 ghost use Prim.Native.Nat.{_≤_};
 ghost use lib.ListN.{length};
-ghost use Rattle.picture_state.specs.Start.{noState};
+ghost use Rattle.picture_start.specs.Start.{noState};
 ghost use Rattle.picture_state.specs.Step.{rowSaidOf};
 ghost use Rattle.turns.specs.Inner.{rowSize, wantsOf, isOver, atRows, EndsWith, ComesOf};
 use picture_state::Answer;
+use picture_state::Ending;
 use picture_state::State;
 
 // Reading the plan and the head; at the rows, the drains and the byte after them; or done.
@@ -37,6 +38,7 @@ fn none() -> State
         plan: plan_record::empty(),
         sample: 0,
         width: 0,
+        ending: Ending::Fixed,
         rows: 0,
         step: 0,
     }

@@ -136,9 +136,6 @@ module _ (t : ℕ) where
   mul-run : tie.Need-mul-run claims (run-at t) run.Post
   mul-run c = search needs
 
-  mul-run-2 : tie.Need-mul-run-2 claims (run-at t) run.Post
-  mul-run-2 c = search needs
-
   sub-run-2 : tie.Need-sub-run-2 claims (run-at t) run.Post
   sub-run-2 c = search needs
 
@@ -204,7 +201,7 @@ module _ (t : ℕ) where
   closed =
       tie.spec claims (run-at t) run.Post
       returns mul-stage element-copy-out-stage run-front-requires same-length same-length-2 same-length-3 same-length-4 same-length-5 returns-2 add-run mul-run
-      sub-run part-run-start part-run-end mul-run-2 sub-run-2 part-run-start-2 part-run-end-2 sub-run-3 part-run-start-3 part-run-end-3 sub-run-4
+      sub-run part-run-start part-run-end sub-run-2 part-run-start-2 part-run-end-2 sub-run-3 part-run-start-3 part-run-end-3 sub-run-4
       part-run-start-4 part-run-end-4 run-requires add-t19 same-length-6 same-length-7 same-length-8 same-length-9 same-length-10 returns-3
 
 pub +run-spec : {M : Type 1} → statement M

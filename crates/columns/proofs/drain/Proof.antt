@@ -15,13 +15,13 @@ abbrev μ-loop : tie.MeasureT-loop
 μ-loop places positions starts₀ lengths₀ t lo₀ x₀ starts lengths lo x = length starts₀ - x
 
 loop-holds : tie.Need-loop-holds Inv-loop μ-loop
-loop-holds c = aging-first _ _ _ _ _ (c .before .before .before .pre)
+loop-holds c = aging-first _ _ _ _ _ (c .before .before .before .pre .0)
 
 drain-column-requires : tie.Need-drain-column-requires Inv-loop μ-loop
-drain-column-requires c κs = let l = c .before .before .before .loop in (lent-width _ _ _ _ _ (l .inv .lent), l .inv .at, omega arith)
+drain-column-requires c κs = let l = c .before .before .before .loop in (lent-width _ _ _ _ _ (l .inv .lent), l .inv .at, omega arith, omega arith)
 
 add-lo : tie.Need-add-lo Inv-loop μ-loop
-add-lo c = let s = c .before .before .before .before .before .before .before .before .before .before .before .before in let l = c .before .before .before .before .before .before .before .before .loop in omega (arith, column-in _ _ _ _ _ _ _ (s .pre) (l .inv .at) (omega arith))
+add-lo c = let s = c .before .before .before .before .before .before .before .before .before .before .before .before in let l = c .before .before .before .before .before .before .before .before .loop in omega (arith, column-in _ _ _ _ _ _ _ (s .pre .0) (l .inv .at) (omega arith))
 
 add-x : tie.Need-add-x Inv-loop μ-loop
 add-x c = omega arith

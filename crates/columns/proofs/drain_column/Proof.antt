@@ -25,20 +25,17 @@ slice-read-wide-2 c = omega arith
 wide-requires-2 : tie.Need-wide-requires-2
 wide-requires-2 c κs = omega arith
 
-mul-goes : tie.Need-mul-goes
-mul-goes c = let s = c .before .before .before .before .before .before .before in omega (arith, column-in _ _ _ _ _ _ _ (s .pre .0) (s .pre .1) (s .pre .2))
+sub-cell-goes : tie.Need-sub-cell-goes
+sub-cell-goes c = omega arith
 
-sub-goes : tie.Need-sub-goes
-sub-goes c = omega arith
+part-cell-goes-start : tie.Need-part-cell-goes-start
+part-cell-goes-start c = omega arith
 
-part-goes-start : tie.Need-part-goes-start
-part-goes-start c = omega arith
+part-cell-goes-end : tie.Need-part-cell-goes-end
+part-cell-goes-end c = let s = c .before .before .before .before .before .before .before in omega (arith, column-in _ _ _ _ _ _ _ (s .pre .0) (s .pre .1) (s .pre .2))
 
-part-goes-end : tie.Need-part-goes-end
-part-goes-end c = let s = c .before .before .before .before .before .before .before in omega (arith, column-in _ _ _ _ _ _ _ (s .pre .0) (s .pre .1) (s .pre .2))
-
-goes-requires : tie.Need-goes-requires
-goes-requires c κs =
+cell-goes-requires : tie.Need-cell-goes-requires
+cell-goes-requires c κs =
     let s = c .before .before .before .before .before .before .before .before in
     let i = column-in _ _ _ _ _ _ _ (s .pre .0) (s .pre .1) (s .pre .2) in
     search needs
@@ -77,7 +74,7 @@ returns c =
     let i = column-in _ _ _ _ _ _ _ (s .pre .0) (s .pre .1) (s .pre .2) in
     let start = c .before .before .before .before .before .before .before .wide .ensures .0 in
     let count = c .before .before .before .before .before .wide2 .ensures .0 in
-    let gone = c .before .before .before .goes .ensures .0 in
+    let gone = c .before .before .before .cell-goes .ensures .0 in
     let first = c .before .narrow .ensures ∙ c .before .before .slot .ensures .0 in (
       λ vs. column-aged greys _ _ _ _ _ _ vs _ _ _ _ _ (s .pre .0) (s .pre .1) (s .pre .2) k start count _ _ _ gone first (c .narrow2 .ensures) (omega arith) (omega arith),
       λ vs. column-aged rates _ _ _ _ _ _ vs _ _ _ _ _ (s .pre .0) (s .pre .1) (s .pre .2) k start count _ _ _ gone first (c .narrow2 .ensures) (omega arith) (omega arith),
@@ -92,11 +89,10 @@ drain-column-spec =
     wide-requires
     slice-read-wide-2
     wide-requires-2
-    mul-goes
-    sub-goes
-    part-goes-start
-    part-goes-end
-    goes-requires
+    sub-cell-goes
+    part-cell-goes-start
+    part-cell-goes-end
+    cell-goes-requires
     slot-requires
     narrow-requires
     slice-write-starts

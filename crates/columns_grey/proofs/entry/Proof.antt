@@ -22,14 +22,14 @@ slot-requires c κs = search needs
 add-at : tie.Need-add-at
 add-at c = let s = c .before .before .before .before .before .before in omega (arith, ends-before (s .args .places) (s .args .x) _ (s .pre .1))
 
-cell-requires : tie.Need-cell-requires
-cell-requires c κs = let s = c .before .before .before .before .before .before in omega (arith, ends-before (s .args .places) (s .args .x) _ (s .pre .1))
+lent-requires : tie.Need-lent-requires
+lent-requires c κs = let s = c .before .before .before .before .before .before in omega (arith, ends-before (s .args .places) (s .args .x) _ (s .pre .1))
 
 returns : tie.Need-returns
-returns c = let s = c .before .before .before .before .before .before .before in entry-column greys _ _ _ _ _ _ _ _ _ _ (c .before .before .wide .ensures .0) (c .before .slot .ensures .0) (c .before .slot .ensures .1) (c .cell .ensures .0) (c .cell .ensures .1)
+returns c = let s = c .before .before .before .before .before .before .before in entry-column greys _ _ _ _ _ _ _ _ _ _ _ (c .before .before .wide .ensures .0) (c .before .slot .ensures .0) (c .before .slot .ensures .1) (c .lent .ensures .0) (c .lent .ensures .1)
 
 pub entry-spec : {M : Type 1} → statement M
 entry-spec =
     tie.close
     (tie.spec
-    shared-slice-read-wide wide-requires mul-at slot-requires add-at cell-requires returns)
+    shared-slice-read-wide wide-requires mul-at slot-requires add-at lent-requires returns)

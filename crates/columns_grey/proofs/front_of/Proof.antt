@@ -12,12 +12,12 @@ wide-requires c κs = search needs
 add-at : tie.Need-add-at
 add-at c = search needs
 
-cell-requires : tie.Need-cell-requires
-cell-requires c κs = search needs
+lent-requires : tie.Need-lent-requires
+lent-requires c κs = search needs
 
 returns : tie.Need-returns
-returns c = rw (← c .before .wide .ensures .0) (c .cell .ensures)
+returns c = rw (← c .before .wide .ensures .0) (c .lent .ensures)
 
 pub front-of-spec : {M : Type 1} → statement M
 front-of-spec =
-    tie.close (tie.spec shared-slice-read-wide wide-requires add-at cell-requires returns)
+    tie.close (tie.spec shared-slice-read-wide wide-requires add-at lent-requires returns)

@@ -34,9 +34,6 @@ part-push-start c = omega arith
 part-push-end : tie.Need-part-push-end
 part-push-end c = let s = c .before .before .before .before .before .before .before .before in omega (arith, column-in _ _ _ _ _ _ _ (s .pre .0) (s .pre .1) (s .pre .2))
 
-mul-push : tie.Need-mul-push
-mul-push c = let s = c .before .before .before .before .before .before .before .before .before in omega (arith, column-in _ _ _ _ _ _ _ (s .pre .0) (s .pre .1) (s .pre .2))
-
 sub-push-2 : tie.Need-sub-push-2
 sub-push-2 c = omega arith
 
@@ -92,6 +89,6 @@ pub read-column-spec : {M : Type 1} → statement M
 read-column-spec =
     tie.close
     (tie.spec
-    add-hi slice-read-wide wide-requires slice-read-wide-2 wide-requires-2 sub-push part-push-start part-push-end mul-push sub-push-2 part-push-start-2
+    add-hi slice-read-wide wide-requires slice-read-wide-2 wide-requires-2 sub-push part-push-start part-push-end sub-push-2 part-push-start-2
     part-push-end-2 push-requires narrow-requires slice-write-starts narrow-requires-2 slice-write-lengths same-length same-length-2 same-length-3
     same-length-4 returns)

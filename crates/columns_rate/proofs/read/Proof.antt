@@ -32,7 +32,7 @@ read-column-requires c κs =
     let at-12 = at-loop .before .before .before .before .before .before in
     let l = at-loop .loop in
     let s = at-12 in
-    (lent-width _ _ _ _ _ (l .inv .moved .lent), l .inv .at, omega arith, omega (arith, s .pre))
+    (lent-width _ _ _ _ _ (l .inv .moved .lent), l .inv .at, omega arith, omega (arith, s .pre), omega arith)
 
 add-comparisons : tie.Need-add-comparisons Inv-loop μ-loop
 add-comparisons c = omega arith

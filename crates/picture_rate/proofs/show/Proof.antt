@@ -19,13 +19,13 @@ lacks-requires c κs = search needs
 returns : tie.Need-returns
 returns c =
     let start = c .before .before .before .before .before .before .before .before in
-    show-lacks rates (start .args .places) (start .args .x) (start .args .values .now) (start .args .positions .now) (start .args .starts .now) (start .args .lengths .now) (start .args .k) _ _ (c .before .before .wide .ensures .0) (c .before .if1 .taken) (c .lacks .ensures)
+    show-lacks rates (start .args .places) (start .args .x) (start .args .values .now) (start .args .positions .now) (start .args .starts .now) (start .args .lengths .now) (start .args .k) (start .args .s) _ _ (c .before .before .wide .ensures .0) (c .before .if1 .taken) (c .lacks .ensures)
 
 entry-requires : tie.Need-entry-requires
 entry-requires c κs =
     let start = c .before .before .before .before .before .before .before in
-    let (l, v, x) = start .pre in
-    (l .places, x, v ∙ l .positions-long, sym v, l .sound .below _ x, omega (arith, l .sound .fits (start .args .x) x, c .before .wide .ensures .0, c .if1 .left))
+    let (l, v, x, d) = start .pre in
+    (l .places, x, v ∙ l .positions-long, sym v, l .sound .below _ x, omega (arith, l .sound .fits (start .args .x) x, c .before .wide .ensures .0, c .if1 .left), d)
 
 finds-requires : tie.Need-finds-requires
 finds-requires c κs = search needs
@@ -34,7 +34,7 @@ returns-2 : tie.Need-returns-2
 returns-2 c =
     let at-wide = c .before .before .before in
     let start = at-wide .before .before .before .before .before .before in
-    show-finds rates (start .args .places) (start .args .x) (start .args .values .now) (start .args .positions .now) (start .args .starts .now) (start .args .lengths .now) (start .args .k) _ _ (at-wide .wide .ensures .0) _ _ (c .before .before .if1 .left) (c .before .entry .ensures) (c .finds .ensures)
+    show-finds rates (start .args .places) (start .args .x) (start .args .values .now) (start .args .positions .now) (start .args .starts .now) (start .args .lengths .now) (start .args .k) (start .args .s) _ _ (at-wide .wide .ensures .0) _ _ (c .before .before .if1 .left) (c .before .entry .ensures) (c .finds .ensures)
 
 pub show-spec : {M : Type 1} → statement M
 show-spec = tie.close (tie.spec shared-slice-read-wide wide-requires lacks-requires returns entry-requires finds-requires returns-2)

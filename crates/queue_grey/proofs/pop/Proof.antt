@@ -39,7 +39,7 @@ returns c =
     let l = c .before .before .before .before .before .loop in
     let p = c .before .before .before .previous in
     let e = wrap-before _ _ (l .left) (p .result) (omega arith) (omega arith) (omega arith) (p .ensures .0) (p .ensures .1 ∙ l .inv .1) in
-    (left-stop _ _ _ _ _ _ (l .left) (p .result) (omega arith) (omega arith) e (l .inv .2) (sym (c .before .passes .ensures) ∙ not-true _ (c .if1 .taken)), omega arith, l .inv .1)
+    (left-stop _ _ _ _ _ _ (l .left) (p .result) (omega arith) (omega arith) e (l .inv .2) (sym (c .before .passes .ensures) ∙ not-true _ (c .if1 .taken)), omega arith, l .inv .1, rw (l .inv .1) (wrap-lt _ _ (omega arith)))
 
 sub-left : tie.Need-sub-left Inv-loop μ-loop
 sub-left c = omega arith
@@ -55,7 +55,7 @@ loop-again c =
     (omega arith, e, left-more _ _ _ _ _ _ (l .left) (p .result) (omega arith) (omega arith) e (l .inv .2) (sym (c .before .passes .ensures) ∙ not-false _ (c .if1 .left)))
 
 returns-2 : tie.Need-returns-2 Inv-loop μ-loop
-returns-2 c = let l = c .before .loop in (left-none _ _ _ _ _ _ (l .left) (omega arith) (l .inv .2), omega arith, l .inv .1)
+returns-2 c = let l = c .before .loop in (left-none _ _ _ _ _ _ (l .left) (omega arith) (l .inv .2), omega arith, l .inv .1, rw (l .inv .1) (wrap-lt _ _ (omega arith)))
 
 pub pop-spec : {M : Type 1} → statement M
 pop-spec =

@@ -42,13 +42,17 @@ returns-2 c =
 size-of-requires : tie.Need-size-of-requires
 size-of-requires c κs = search needs
 
+add-fronts : tie.Need-add-fronts
+add-fronts c = search needs
+
 fronts-requires : tie.Need-fronts-requires
 fronts-requires c κs =
     let at-size-of = c .before .before .before .before in
     let at-move-on = at-size-of .before .before .before .before .before .before .before .before .before .before .before .before in
-    let at-29 = at-move-on .before .before .before .before .before .before .before .before .before .before .before .before .before in
-    let s = at-29 in
-    fronts-ready rates _ _ _ _ _ _ _ _ (at-move-on .move-on .ensures) _ (at-size-of .size-of .ensures .0) (s .pre .3) (s .pre .2 .positions-long)
+    let at-if1 = at-move-on .before .before .before .before .before .before in
+    let s = at-if1 .before .before .before .before .before .before .before in
+    let f = fronts-ready rates _ _ _ _ _ _ _ _ (at-move-on .move-on .ensures) _ (at-size-of .size-of .ensures .0) (s .pre .3) (s .pre .2 .positions-long) in
+    (f .0, f .1, f .2, f .3, omega (arith, at-if1 .if1 .left, at-if1 .before .below .ensures .1, s .pre .1))
 
 same-length-6 : tie.Need-same-length-6
 same-length-6 c = search needs
@@ -76,4 +80,4 @@ step-spec =
     tie.close
     (tie.spec
     below-requires add-if1 returns move-on-requires same-length same-length-2 same-length-3 same-length-4 same-length-5 returns-2 size-of-requires
-    fronts-requires same-length-6 same-length-7 same-length-8 same-length-9 same-length-10 returns-3)
+    add-fronts fronts-requires same-length-6 same-length-7 same-length-8 same-length-9 same-length-10 returns-3)

@@ -21,15 +21,12 @@ across-requires c κs =
 size-of-requires : tie.Need-size-of-requires
 size-of-requires c κs = search needs
 
-position-requires : tie.Need-position-requires
-position-requires c κs = search needs
-
 read-columns-requires : tie.Need-read-columns-requires
 read-columns-requires c κs =
-    let at-size-of = c .before .before .before .before .before .before in
+    let at-size-of = c .before .before .before .before .before in
     let at-across = at-size-of .before .before .before in
     let start = at-across .before .before .before .before .before .before .before .before .before in
-    (lent-as _ _ _ _ _ _ _ (at-size-of .size-of .ensures .0) (at-across .across .ensures .long) (start .pre .2), start .pre .3)
+    (lent-as _ _ _ _ _ _ _ (at-size-of .size-of .ensures .0) (at-across .across .ensures .long) (start .pre .2), start .pre .3, omega arith)
 
 add-result : tie.Need-add-result
 add-result c = search needs
@@ -52,19 +49,19 @@ same-length-5 c = search needs
 returns : tie.Need-returns
 returns c =
     let at-read-columns = c .before .before .before .before .before .before .before .before in
-    let at-size-of = at-read-columns .before .before .before .before .before .before .before in
+    let at-size-of = at-read-columns .before .before .before .before .before .before in
     let at-across = at-size-of .before .before .before in
     let at-back-across = at-across .before .before .before in record {
       across = at-across .across .result;
       down = at-read-columns .read-columns .result;
       sum = refl;
       filtered = rw (at-back-across .back-across .ensures .0, at-across .before .before .ahead-across .ensures .0) at (at-across .across .ensures);
-      read = rw (at-size-of .size-of .ensures .0, at-read-columns .before .position .ensures) at (at-read-columns .read-columns .ensures);
+      read = rw (at-size-of .size-of .ensures .0) at (at-read-columns .read-columns .ensures);
     }
 
 pub take-row-spec : {M : Type 1} → statement M
 take-row-spec =
     tie.close
     (tie.spec
-    back-across-requires ahead-across-requires across-requires size-of-requires position-requires read-columns-requires add-result same-length same-length-2
+    back-across-requires ahead-across-requires across-requires size-of-requires read-columns-requires add-result same-length same-length-2
     same-length-3 same-length-4 same-length-5 returns)

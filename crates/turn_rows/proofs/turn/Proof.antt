@@ -23,9 +23,9 @@ look-ahead-requires c κs = at-rows (c .before .before .before .before .before .
 
 add-if1 : tie.Need-add-if1
 add-if1 c =
-    let a = at-rows (c .before .before .before .before .before .before .before .before .before .before .before .before .before) .sound in
-    let b = a .low in
-    omega (arith, ahead-few (c .before .before .before .before .before .before .before .before .before .before .before .before .before .args .machine .state .plan) (a .plan), c .before .look-ahead .ensures)
+    let a = at-rows (c .before .before .before .before .before .before .before .before .before .before .before .before .before) in
+    let b = a .few in
+    omega (arith, ahead-few (c .before .before .before .before .before .before .before .before .before .before .before .before .before .args .machine .state .plan) (a .sound .plan), c .before .look-ahead .ensures)
 
 judge-tail-requires : tie.Need-judge-tail-requires
 judge-tail-requires c κs = search needs

@@ -3,11 +3,12 @@ use borrow.Author.Needs.{needs}
 use mathlib.Core.Path.{ap}
 use Rattle.plan_record.specs.declared.Plan.{Plan}
 use Rattle.picture_state.specs.declared.State.{State}
+use Rattle.picture_state.specs.declared.Ending.the-variants.{Fixed}
 use Rattle.turns.proofs.none.Statement.{statement}
 use Rattle.turns.proofs.none.Tie as tie
 
 abbrev zeros : Plan → State
-zeros plan = record { plan = plan; sample = 0; width = 0; rows = 0; step = 0 }
+zeros plan = record { plan = plan; sample = 0; width = 0; ending = Fixed; rows = 0; step = 0 }
 
 empty-requires : tie.Need-empty-requires
 empty-requires c κs = search needs

@@ -1,13 +1,16 @@
 -- Each way out is a test of the definition.
-use native.Mathlib.Omega.{arith}
-use mathlib.Core.Path.{sym, _∙_}
-use borrow.Author.Tests.{lt-ltb, le-ltb, eq-eqb, ne-eqb}
-use Rattle.plan_record.proofs.Numbers.{size-accepted}
+use mathlib.Core.Path.{_≡_, sym, _∙_}
+use borrow.Author.Tests.{eq-eqb, ne-eqb}
+use Rattle.plan_record.specs.Plan.{recordNumber}
 use Rattle.picture_state.specs.Numbers.{stateNumber}
-use Rattle.picture_state.proofs.Numbers.{plan-accepted, ahead-few}
+use Rattle.picture_state.proofs.Numbers.{plan-accepted, ahead-few, rows-few}
 use borrow.Author.Needs.{needs}
 use Rattle.picture_state.proofs.judging.judge_state.Statement.{statement}
 use Rattle.picture_state.proofs.judging.judge_state.Tie as tie
+
+-- the plan is accepted, where the stage's look-ahead is asked
+judged : (c : tie.Else3) → recordNumber (c .before .before .before .before .before .before .before .args .state .plan) ≡ 0
+judged c = sym (c .before .before .before .before .before .judge .ensures) ∙ c .before .before .before .before .if1 .left
 
 judge-requires : tie.Need-judge-requires
 judge-requires c κs = search needs
@@ -33,33 +36,31 @@ returns-3 c =
     simp (← at-judge-sample .before .before .judge .ensures, eq-eqb _ 0 (at-judge-sample .before .if1 .left), ← at-judge-sample .judge-sample .ensures, eq-eqb _ 0 (c .before .before .if2 .left), ← c .before .judge-size .ensures, ne-eqb _ 0 (c .if3 .taken))
 
 look-ahead-requires : tie.Need-look-ahead-requires
-look-ahead-requires c κs = plan-accepted _ (sym (c .before .before .before .before .before .judge .ensures) ∙ c .before .before .before .before .if1 .left) .few
+look-ahead-requires c κs = plan-accepted _ (judged c) .few
 
-add-if4 : tie.Need-add-if4
-add-if4 c =
-    let at-judge-size = c .before .before .before in
-    let at-if1 = at-judge-size .before .before .before in
-    let start = at-if1 .before .before .before in
-    omega (arith, c .before .look-ahead .ensures, ahead-few (start .args .state .plan) (plan-accepted _ (sym (at-if1 .before .judge .ensures) ∙ at-if1 .if1 .left)), size-accepted (start .args .state .width) (start .args .state .rows) (sym (at-judge-size .judge-size .ensures) ∙ c .before .before .if3 .left))
+step-off-requires : tie.Need-step-off-requires
+step-off-requires c κs =
+    let start = c .before .before .before .before .before .before .before .before in
+    (rows-few (start .args .state .ending) (start .args .state .width) (start .args .state .rows) (sym (c .before .before .judge-size .ensures) ∙ c .before .if3 .left), rw (c .look-ahead .ensures) (ahead-few (start .args .state .plan) (plan-accepted _ (judged (c .before)))))
 
 returns-4 : tie.Need-returns-4
 unfolding stateNumber
 returns-4 c =
-    let at-look-ahead = c .before .before .before in
+    let at-look-ahead = c .before .before in
     let at-if2 = at-look-ahead .before .before .before in
     let at-judge = at-if2 .before .before .before in
-    simp (← at-judge .judge .ensures, eq-eqb _ 0 (at-if2 .before .before .if1 .left), ← at-if2 .before .judge-sample .ensures, eq-eqb _ 0 (at-if2 .if2 .left), ← at-look-ahead .before .before .judge-size .ensures, eq-eqb _ 0 (at-look-ahead .before .if3 .left), ← at-look-ahead .look-ahead .ensures, lt-ltb _ _ (c .if4 .taken))
+    simp (← at-judge .judge .ensures, eq-eqb _ 0 (at-if2 .before .before .if1 .left), ← at-if2 .before .judge-sample .ensures, eq-eqb _ 0 (at-if2 .if2 .left), ← at-look-ahead .before .before .judge-size .ensures, eq-eqb _ 0 (at-look-ahead .before .if3 .left), ← at-look-ahead .look-ahead .ensures, ← c .before .step-off .ensures, c .if4 .taken)
 
 returns-5 : tie.Need-returns-5
 unfolding stateNumber
 returns-5 c =
-    let at-look-ahead = c .before .before .before in
+    let at-look-ahead = c .before .before in
     let at-if2 = at-look-ahead .before .before .before in
     let at-judge = at-if2 .before .before .before in
-    simp (← at-judge .judge .ensures, eq-eqb _ 0 (at-if2 .before .before .if1 .left), ← at-if2 .before .judge-sample .ensures, eq-eqb _ 0 (at-if2 .if2 .left), ← at-look-ahead .before .before .judge-size .ensures, eq-eqb _ 0 (at-look-ahead .before .if3 .left), ← at-look-ahead .look-ahead .ensures, le-ltb _ _ (c .if4 .left))
+    simp (← at-judge .judge .ensures, eq-eqb _ 0 (at-if2 .before .before .if1 .left), ← at-if2 .before .judge-sample .ensures, eq-eqb _ 0 (at-if2 .if2 .left), ← at-look-ahead .before .before .judge-size .ensures, eq-eqb _ 0 (at-look-ahead .before .if3 .left), ← at-look-ahead .look-ahead .ensures, ← c .before .step-off .ensures, c .if4 .left)
 
 pub judge-state-spec : {M : Type 1} → statement M
 judge-state-spec =
     tie.close
     (tie.spec
-    judge-requires returns judge-sample-requires returns-2 judge-size-requires returns-3 look-ahead-requires add-if4 returns-4 returns-5)
+    judge-requires returns judge-sample-requires returns-2 judge-size-requires returns-3 look-ahead-requires step-off-requires returns-4 returns-5)
