@@ -2,7 +2,7 @@
  * and C++.
  *
  * `rt staticlib firmware` proves them all and writes target/staticlib/libfirmware.a for x86-64 Linux; link that. None keeps
- * anything between calls or takes memory but of the stack, a job about 90 KB and the others a little, so calls may run
+ * anything between calls or takes memory but of the stack, a job about 100 KB and the others a little, so calls may run
  * side by side. Of the C library they may need memcpy and memset. Floats are compared in the float environment that a C
  * program starts with: one that has the processor take subnormal numbers for zeros may get zeros for them.
  */
@@ -39,7 +39,7 @@ enum kelafshir_number {
     KELAFSHIR_STAGE_COUNT = 1,      /* the stage count is 0 or over 16 */
     KELAFSHIR_STAGE_KIND = 2,       /* a stage kind is not erosion or dilation */
     KELAFSHIR_EXTENT = 3,           /* an extent is over 31 */
-    KELAFSHIR_SIZE = 4,             /* a width, a row count or a line's length is 0 or too large */
+    KELAFSHIR_SIZE = 4,             /* a width, a row count or a line's length is 0 or too large, or a run is stopped with no row read */
     KELAFSHIR_SAMPLE_KIND = 5,      /* the sample kind is not grey or float, or not the state's */
     KELAFSHIR_MEMORY = 6,           /* too few queue cells, column records, bytes of output or places of a row are lent */
     KELAFSHIR_ROW_LENGTH = 7,       /* a row is not as long as the width, two rows differ, or a picture is not width x rows */
@@ -86,7 +86,7 @@ struct kelafshir_job_run {
  * and the row's, and 2 bytes. 2 bytes are enough where the head is refused. Both blocks belong to the caller, have the
  * lengths given with them and must not overlap. The job is only read, and what lies in out behind the answer is as it was.
  *
- * It takes about 90 KB of the stack: three rows, 4,096 queue cells of either kind of sample, and as many column records.
+ * It takes about 100 KB of the stack: three rows, 4,096 queue cells of either kind of sample, and as many column records.
  *
  * Answers how many bytes were written and the number that they end with: KELAFSHIR_DONE, or the first refusal in the order
  * in which a job is read:

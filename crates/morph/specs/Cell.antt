@@ -5,12 +5,12 @@ use Prim.Native.Nat.{ℕ, _+_, _-_, _%_}
 use lib.Dec.{leb, ltb}
 use Rattle.morph.specs.Line.{Entry}
 
--- how far before row s the nearest row stands whose number has the remainder r: 1 to 128
+-- how far before row s the nearest row stands whose number has the remainder of r: 1 to 128
 unfoldable pub ageOf : ℕ → ℕ → ℕ
 ageOf s r = (s + 255 - r % 128) % 128 + 1
 
--- The number of that row, s being the steps done. Where r is no remainder, or there is no such row, it is s itself, the number of a row that is not read yet: no queue holds that one, so that a
--- cell which means no row is never taken for one that does.
+-- The number of that row, s being the steps done. Where r is no remainder, or there is no such row, it is s itself, which no row read has as its number: no queue holds it, so that a cell
+-- which means no row is never taken for one that does.
 unfoldable pub rowOf : ℕ → ℕ → ℕ
 rowOf s r = cond (ltb r 128 && leb (ageOf s r) s) (s - ageOf s r) s
 

@@ -30,6 +30,8 @@ use Rattle.picture_state.specs.declared.Ending.the-variants.{Open, Stopped}
 use Rattle.picture_state.specs.declared.Answer.{Answer}
 use Rattle.picture_state.specs.Numbers.{heightIn, heightOf, allRead, pastLast, notOpen, memoryJudged, rowNumber, drainJudged}
 use Rattle.picture_state.specs.Step.{RowSaid, rowSaidOf, rowSaidAt, nextState, Advanced, RowStep, DrainStep}
+use Rattle.picture_state.specs.ReadOut.{Shows}
+use Rattle.morph.specs.Line.{Shown}
 use Rattle.picture_state.proofs.Numbers.{shared-accepted, closed-drains, offer-all, drain-accepted, drain-all}
 use Rattle.picture_state.proofs.Step.{judged-fit}
 use Rattle.picture_start.specs.declared.Stopping.{Stopping}
@@ -37,7 +39,7 @@ use Rattle.picture_start.specs.Start.{openState}
 use Rattle.picture_start.specs.Stop.{stopNumber, stoppedState, PictureStop}
 use Rattle.picture_start.proofs.Starting.{begins-open, start-fits, numbers-start}
 use Rattle.picture_start.proofs.Stops.{stop-all, stop-accepted, stop-sound}
-use Rattle.picture.specs.Runs.{cameWith, rowsOf, PictureRun, queueOver}
+use Rattle.picture.specs.Runs.{cameWith, rowsOf, PictureRun, shownOver}
 use Rattle.picture.specs.OpenRuns.{stateIn, rowsRead, OpenRun, opened, opened-numbers, offered, drained, stopped, row-refused, drain-refused, stop-refused, OpenRan}
 use Rattle.picture.specs.Same.{SameQueues, SameStep, SamePast}
 use Rattle.picture.proofs.Unique.{row-offered, held-same, row-unique, drain-unique}
@@ -53,6 +55,14 @@ ends-open e h o = ⊎-elim (λ p. p) (λ p. absurd (false≢true (sym o ∙ ap n
 
 ends-stopped : (e : Ending) → Ends e → notOpen e ≡ true → e ≡ Stopped
 ends-stopped e h o = ⊎-elim (λ p. absurd (false≢true (sym (ap notOpen p) ∙ o))) (λ p. p) h
+
+-- there is a number for each row read
+ends-few : (e : Ending) (rows step L : ℕ) → Ends e → L ≡ rowsRead e rows step → heightIn e rows step ≤ 4294967297 → (notOpen e ≡ true → rows ≤ 4294967296) → L ≤ 4294967296
+ends-few e rows step L h r l c =
+    ⊎-elim
+    (λ p. let a : L ≡ step = rw p at r in let b : step + 1 ≤ 4294967297 = rw p at l in omega arith)
+    (λ p. let a : L ≡ rows = rw p at r in let b = c (rw p) in omega arith)
+    h
 
 -- a row is left to read only while the run is open
 ends-reading : (e : Ending) (rows step L : ℕ) → Ends e → L ≡ rowsRead e rows step → L ≤ step → step < heightIn e rows step → e ≡ Open
@@ -97,6 +107,7 @@ module _ {A : Type 0} (K : Samples A) (kind : ℕ) (first : State) where
     ends : Ends (S .ending)
     lent : memoryJudged kind S M ≡ 0
     reads : length read ≡ rowsRead (S .ending) (S .rows) (S .step)
+    uncounted : S .ending ≡ Open → S .rows ≡ 0
     steps : length read ≤ S .step
     wide : Wide (S .width) read
     good : Each (Each (λ a. K .good a ≡ true)) read
@@ -151,6 +162,7 @@ module _ {A : Type 0} (K : Samples A) (kind : ℕ) (first : State) where
             ends = r .ends;
             lent = subst (λ T. memoryJudged kind T M′ ≡ 0) (h .state) m;
             reads = rw (x .still) l;
+            uncounted = r .uncounted;
             steps = omega arith;
             wide = x .whole .wide;
             good = x .whole .good;
@@ -171,6 +183,7 @@ module _ {A : Type 0} (K : Samples A) (kind : ℕ) (first : State) where
             ends = r .ends;
             lent = subst (λ T. memoryJudged kind T M′ ≡ 0) (h .state) m;
             reads = rw e l;
+            uncounted = r .uncounted;
             steps = omega (arith, r .steps);
             wide = r .wide;
             good = r .good;
@@ -194,6 +207,7 @@ module _ {A : Type 0} (K : Samples A) (kind : ℕ) (first : State) where
           ends = inr refl;
           lent = lent-zero kind (stoppedState S) M (stop-sound S n) (g .sample) (f .values-lent) (f .positions-lent) (f .starts-lent) (f .lengths-lent) (f .sound);
           reads = l;
+          uncounted = λ z. absurd (false≢true (sym (ap notOpen z)));
           steps = r .steps;
           wide = r .wide;
           good = r .good;
@@ -207,6 +221,7 @@ module _ {A : Type 0} (K : Samples A) (kind : ℕ) (first : State) where
     ends = inl (b .ends);
     lent = b .lent;
     reads = rw (b .ends) (sym (b .none));
+    uncounted = λ _. b .counts;
     steps = omega arith;
     wide = tt;
     good = tt;
@@ -246,6 +261,8 @@ module _ {A : Type 0} (K : Samples A) (kind : ℕ) (first : State) where
           kept = g .kept;
           ends = g .ends;
           reads = g .reads;
+          uncounted = g .uncounted;
+          numbered = let f = judged-fit kind S M (g .lent) .run in ends-few (S .ending) (S .rows) (S .step) (length read) (g .ends) (g .reads) (f .low) (f .closed);
           counted = f .counted;
           bounded = (g .steps, b);
           says = u .says;
@@ -302,10 +319,10 @@ module _ {A : Type 0} (K : Samples A) (kind : ℕ) (first : State) where
           drain-unique K S kind M M₁ M₂ out out₁ out₂ a₁ a₂ S₁ S₂ h k n read (rolls-whole S M read said came (rolls r) e) (rolls r .told .held)
 
   module _ (S : State) (M : Memory A) (read : Picture A) (said : List RowSaid) (came : List (Option (List A))) (r : R S M read said came) where
-    -- A stop that is taken loses nothing: H is the rows read, the run goes on over the same picture with the same memory, and every queue is document 01's before it and after it.
+    -- A stop that is taken loses nothing: H is the rows read, the run goes on over the same picture with the same memory, every queue is document 01's before it and after it, and a read-out shows the same.
     pub stop-loses-nothing : (q : Stopping) → stopNumber S ≡ 0 → PictureStop S q
         → (q .state .ending ≡ Stopped) × (q .state .rows ≡ length read) × OpenRan K kind first read S M said came × OpenRan K kind first read (q .state) M said came
-        × ((stage column : ℕ) → queueOver K kind first (q .state) read stage column ≡ queueOver K kind first S read stage column)
+        × ((stage column place : ℕ) (a b : Shown A) → Shows K kind S M stage column place a → Shows K kind (q .state) M stage column place b → a ≡ b)
     stop-loses-nothing q n h =
         let s = h .accepted n in
         let (_, o, _) = stop-accepted S n in
@@ -314,10 +331,13 @@ module _ {A : Type 0} (K : Samples A) (kind : ℕ) (first : State) where
           ap (λ (T : State). T .rows) s ∙ sym l,
           open-told S M read said came r,
           open-told (q .state) M read said came (stopped q r n h),
-          λ stage column. ap (λ (T : State). queueOver K kind first T read stage column) s,
+          λ stage column place a b x y.
+              open-told S M read said came r .shows stage column place a x ∙ ap (λ (T : State). shownOver K kind first T read stage column place) (sym s)
+              ∙ sym (open-told (q .state) M read said came (stopped q r n h) .shows stage column place b y),
         )
 
-    -- An open run that has stopped is a fixed run of the rows read: with the same plan and width, after as many steps, the answers, the rows that came and the queues, cell by cell, are the same.
+    -- An open run that has stopped beside a fixed run of the rows read (which are then at most 65,535), of the same plan and width and after as many steps: the answers, the rows that came and the queues,
+    -- cell by cell, are the same.
     pub open-fixed : (first′ S′ : State) (M′ : Memory A) (said′ : List RowSaid) (came′ : List (Option (List A))) → PictureRun K kind first′ S′ M′ read said′ came′ → S .ending ≡ Stopped
         → S′ .plan ≡ S .plan → S′ .width ≡ S .width → S′ .rows ≡ S .rows → S′ .step ≡ S .step → (said′ ≡ said) × (came′ ≡ came) × SameQueues K S M′ M
     open-fixed first′ S′ M′ said′ came′ q e plan width rows step =

@@ -65,13 +65,15 @@ module _ {A : Type 0} (K : Samples A) (kind : ℕ) (first : State) where
         → (stopNumber S ≡ 0 → ⊥) → PictureStop S r → OpenRun (r .state) M read said came
 
   -- After an open run, whatever was refused in between. "Conditions 2 and 3 hold with H taken as the rows read when the stop is said, and before it, from the first row on, for all rows so far": the picture
-  -- is the rows read, no more and no fewer. The plan, the sample kind and the width are the start's, the run is open or has stopped, and rows and steps are counted. Each answer is document 01's over that
-  -- picture, the rows that came are those of the plan applied to it, each at its step and at no other (condition 2), and together its first ones; the comparisons stay under document 01's bound for
-  -- these rows. The memory holds document 01's queues, and a read-out shows exactly those (condition 3).
+  -- is the rows read, no more and no fewer. The plan, the sample kind and the width are the start's, and the run is open or has stopped. The steps are counted, and the rows once it has stopped: "Output row
+  -- numbers go to 4,294,967,295", so there are at most so many and one. Each answer is document 01's over that picture, the rows that came are those of the plan applied to it, each at its step and at no
+  -- other (condition 2), and together its first ones; the comparisons stay under document 01's bound for these rows. The memory holds document 01's queues, and a read-out shows exactly those (condition 3).
   pub record OpenRan (read : Picture A) (S : State) (M : Memory A) (said : List RowSaid) (came : List (Option (List A))) : Type 0 where
     pub kept : S ≡ stateIn first (S .ending) (S .rows) (S .step)
     pub ends : (S .ending ≡ Open) ⊎ (S .ending ≡ Stopped)
     pub reads : length read ≡ rowsRead (S .ending) (S .rows) (S .step)
+    pub uncounted : S .ending ≡ Open → S .rows ≡ 0
+    pub numbered : length read ≤ 4294967296
     pub counted : length said ≡ S .step
     pub bounded : (length read ≤ S .step) × (S .step ≤ length read + planAhead (S .plan))
     pub says : said ≡ tabulate (S .step) (rowSaidOver K kind first S read)

@@ -1,20 +1,20 @@
 // Pictures of grey bytes.
 
 ghost use mathlib.Core.Path.{_≡_};
+ghost use mathlib.Core.List.{map};
 ghost use Prim.Native.Nat.{_+_, _≤_, _<_};
 ghost use lib.ListN.{length};
+ghost use Rattle.morph.specs.Line.{found, refused};
+ghost use Rattle.morph.specs.Cell.{readAt};
 ghost use Rattle.sample.specs.Samples.{greys};
 ghost use Rattle.plan_record.specs.Plan.{planAhead};
-ghost use Rattle.picture_state.specs.Inner.{Fit, placeShown};
-ghost use Rattle.picture_state.specs.Numbers.{heightOf};
-ghost use Rattle.morph.specs.Cell.{readAt};
-ghost use mathlib.Core.List.{map};
-ghost use Rattle.picture_state.specs.Step.{Advanced, RowStep, DrainStep};
 ghost use Rattle.columns.specs.Inner.{Lent};
 ghost use Rattle.memory.specs.Memory.{memory, columnAt};
-ghost use Rattle.picture_grey.specs.Shown.{greyShown};
+ghost use Rattle.picture_state.specs.Numbers.{heightOf};
+ghost use Rattle.picture_state.specs.Inner.{Fit, placeShown};
+ghost use Rattle.picture_state.specs.Step.{Advanced, RowStep, DrainStep};
 ghost use Rattle.picture_state.specs.ReadOut.{Shows};
-ghost use Rattle.morph.specs.Line.{found, refused};
+ghost use Rattle.picture_grey.specs.Shown.{greyShown};
 use morph::wide;
 use picture_state::State;
 use picture_state::Stepped;

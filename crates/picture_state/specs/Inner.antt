@@ -23,7 +23,7 @@ pub record Accepted (plan : Plan) : Type 0 where
   pub few : plan .count ≤ 16
   pub small : (i : ℕ) → i < plan .count → Small (getD (plan .stages) i unused)
 
--- a state that rule 12 holds of
+-- what a state has that 12 lets in
 pub record StateSound (S : State) : Type 0 where
   pub plan : Accepted (S .plan)
   pub wide : 0 < S .width

@@ -23,7 +23,7 @@ memoryNumber plan width cells records = given 6 (ltb cells (cellsNeeded plan wid
 -- ---- how a run ends: its rows are fixed at the start, or "the row count is not given at the start, and the caller says when the belt has stopped"
 
 -- The rows that a step knows of. "Conditions 2 and 3 hold with H taken as the rows read when the stop is said, and before it, from the first row on, for all rows so far": before the stop
--- these are the rows read and the one that is offered.
+-- these are the rows read and the one that is offered. A read-out goes by it too: no stage has done more steps than the plan, so that a row more changes nothing there.
 abbrev pub heightIn : Ending → ℕ → ℕ → ℕ
 heightIn Fixed rows step = rows
 heightIn Open rows step = step + 1

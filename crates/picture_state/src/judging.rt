@@ -178,7 +178,7 @@ fn all_read(state: State) -> bool
     }
 }
 
-// Whether the last row that has a number has been read.
+// Whether an open run has read the last row that has a number.
 fn past_last(state: State) -> bool
     ensures { λ r. ⌜ r ≡ pastLast (state .ending) (state .step) ⌝ }
 {
@@ -190,7 +190,7 @@ fn past_last(state: State) -> bool
     }
 }
 
-// Whether no output is left to drain, of a plan with that look-ahead, or not all rows are read.
+// Whether no output is left to drain, of a plan with that look-ahead, or not all rows are read: while a run is open they never are.
 fn no_drain(state: State, ahead: usize) -> bool
     requires { ⌜ (notOpen (state .ending) ≡ true → state .rows ≤ 4294967296) × (ahead ≤ 496) ⌝ }
     ensures { λ r. ⌜ r ≡ noDrain (state .ending) (state .rows) ahead (state .step) ⌝ }

@@ -1,4 +1,4 @@
-// A run of a plan over a picture: its state, which calls on it are refused, and where a read-out's queue lies. The steps of grey and of float pictures
+// A run of a plan over a picture: its state, which calls on it are refused, and where a read-out's queue lies and how it is read. The steps of grey and of float pictures
 // share it; crate picture_start starts and stops a run, and crate picture hands on what a caller uses.
 
 ghost use mathlib.Core.Path.{_≡_};
@@ -9,7 +9,7 @@ ghost use Rattle.picture_state.specs.Step.{rowSaidOf, row, notYet, refus
 use plan_record::Plan;
 
 pub mod judging; // judging.rt: which calls are refused
-pub mod place; // place.rt: where a read-out's queue lies
+pub mod place; // place.rt: where a read-out's queue lies, and by how many steps it is read
 
 // How a run ends: after rows that are counted at its start, or where its stop is said, which is still to come or was.
 pub enum Ending {

@@ -1,9 +1,10 @@
-// Where a read-out's queue lies.
+// Where a read-out's queue lies, and by how many steps it is read.
 
 ghost use mathlib.Core.Path.{_≡_};
-ghost use Prim.Native.Nat.{_+_, _-_, _≤_, _<_, min};
+ghost use Prim.Native.Nat.{_≤_, _<_};
 ghost use lib.ListN.{getD, take};
-ghost use Rattle.plan_record.specs.Plan.{unused, sizeOf, belowOf, cellsOf, total};
+ghost use Rattle.plan_record.specs.Plan.{unused, sizeOf, cellsOf, total};
+ghost use Rattle.memory.specs.Memory.{stageSteps};
 ghost use Rattle.picture_state.specs.Inner.{Accepted, placedNumber};
 use crate::State;
 use crate::judging::judge;
@@ -66,7 +67,7 @@ pub fn part_of(plan: Plan, stage: usize, width: usize) -> Part
 // The steps that a stage of the plan has done of its own, after t steps over so many rows.
 pub fn own_steps(plan: Plan, stage: usize, rows: usize, t: usize) -> usize
     requires { ⌜ Accepted plan × (stage < plan .count) × (rows ≤ 4294967297) ⌝ }
-    ensures { λ r. ⌜ (r ≡ min (t - total belowOf (take stage (plan .stages))) (rows + belowOf (getD (plan .stages) stage unused))) × (r ≤ 4294967800) ⌝ }
+    ensures { λ r. ⌜ (r ≡ stageSteps (plan .stages) rows t stage) × (r ≤ 4294967800) ⌝ }
 {
     let own = plan.stages[stage];
     let last = rows + plan_record::below(own);
