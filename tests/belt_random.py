@@ -46,13 +46,13 @@ def other_state(rng, state):
         'rows': (0, 1, state.step, state.rows + 1, 65535, 65536, LAST, LAST + 1, 2 ** 63, MOST),
         'step': (0, 1, max(0, state.step - 1), state.step + 1, state.rows, state.rows + look_ahead, state.rows + look_ahead + 1, LAST - 1, LAST,
                  LAST + 1, MOST)}
-    return {name: rng.choice(values[name]) for name in rng.sample(sorted(values), rng.choice((1, 1, 2)))}
+    return {name: min(MOST, rng.choice(values[name])) for name in rng.sample(sorted(values), rng.choice((1, 1, 2)))}
 
 
 def other_plan(rng, plan):
     """Another count, or an extent changed, of a stage that is used or of one that is not."""
     if rng.random() < 0.5:
-        return Plan(rng.choice((0, 1, plan.count + 1, 16, 17, 255)), plan.stages)
+        return Plan(min(255, rng.choice((0, 1, plan.count + 1, 16, 17, 255))), plan.stages)
     stages, at = list(plan.stages), rng.choice((0, min(plan.count, 16) - 1, 15))
     stages[at] = stages[at]._replace(**{rng.choice(('left', 'right', 'up', 'down')): rng.choice((0, 31, 32, 255))})
     return Plan(plan.count, tuple(stages))

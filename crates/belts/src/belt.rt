@@ -10,7 +10,7 @@ use picture::Stepped;
 use plan_record::Plan;
 use plan_record::Stage;
 
-// What a call has to leave alone: nothing, all that is lent, or what is behind the edge.
+// What a command has to leave alone: nothing, all of the memory, or what is behind the edge.
 pub const NOTHING: u8 = 0;
 
 pub const ALL: u8 = 1;
@@ -36,14 +36,19 @@ pub struct Lent {
     pub lengths: usize,
 }
 
-// A run. The edge parts the cells and the records that the plan needs from those behind them; the sums are of all of the memory and of what is behind the edge. The start and the
-// length are those that a record had before it was set.
+// So many cells and so many records, from the first on.
+pub struct Edge {
+    pub cells: usize,
+    pub records: usize,
+}
+
+// A run. The edge parts what the plan needs from what is behind it; the sums are of all of the memory and of what is behind the edge. The start and the length are those that a
+// record had before it was set.
 pub struct Belt {
     pub state: State,
     pub memory: Memory,
     pub lent: Lent,
-    pub cells: usize,
-    pub records: usize,
+    pub edge: Edge,
     pub start: u8,
     pub length: u8,
     pub leaves: u8,
@@ -86,8 +91,10 @@ pub fn first() -> Belt {
             starts: 1024,
             lengths: 1024,
         },
-        cells: 0,
-        records: 0,
+        edge: Edge {
+            cells: 0,
+            records: 0,
+        },
         start: 0,
         length: 0,
         leaves: NOTHING,

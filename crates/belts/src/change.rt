@@ -1,6 +1,7 @@
 // What is set from outside, and what is told of the state: no calls of the filter.
 use crate::belt;
 use crate::belt::Belt;
+use crate::belt::Edge;
 use crate::belt::Lent;
 use crate::command;
 use crate::command::Command;
@@ -72,11 +73,15 @@ fn lend(belt: Belt, c: Command) -> Belt {
     belt::still(next, belt::ALL)
 }
 
+// Where what a plan needs ends.
 fn part(belt: Belt, c: Command) -> Belt {
     show::text(b"edge");
+    let edge = Edge {
+        cells: c.a,
+        records: c.b,
+    };
     let mut next = belt;
-    next.cells = c.a;
-    next.records = c.b;
+    next.edge = edge;
     belt::still(next, belt::NOTHING)
 }
 
@@ -113,7 +118,6 @@ fn title(belt: Belt, given: &[u8]) -> Belt {
     belt::still(belt, belt::NOTHING)
 }
 
-// The sixth sets a record back.
 pub fn call(belt: Belt, c: Command, given: &[u8]) -> Belt {
     let which = c.op % 16;
     match which {

@@ -1,4 +1,15 @@
-// How a command is read: its number, two bytes and five numbers of 8 bytes each, low byte first. The fifth is how many bytes follow that are the command's.
+// How a command is read: its number, two bytes x and y, and five numbers of 8 bytes each, low byte first. The fifth is how many bytes follow that are the command's.
+//
+//     10 11 12       a grey row of the bytes that follow, a drain, both on an output row of b; of stage a and column b the places from c on, at most x of them
+//     20 21 22       the same on floats, a row being of a pixels
+//     30 31 32 33    a start: sample kind x, width a, rows b, cells c; a plan follows. By numbers or by its record; 32 and 33 are open
+//     34             a stop
+//     40 41 42       the state gets the sample kind x, the ending y, the width a, the rows b and the step c; it gets the plan that follows; it is told
+//     43 44          so much is lent of values, positions, starts and lengths; the cells and the records that a plan needs
+//     45 46          record a gets the start x and the length y; record a gets what the last such one had
+//     47             words for the reader follow
+//
+// These numbers are hexadecimal. A plan is its count and 80 numbers.
 ghost use mathlib.Core.Path.{_≡_};
 ghost use Prim.Native.Nat.{_≤_, _<_};
 ghost use lib.ListN.{length, take};

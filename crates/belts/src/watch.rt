@@ -2,6 +2,7 @@
 ghost use Prim.Native.Nat.{_<_};
 use crate::belt;
 use crate::belt::Belt;
+use crate::belt::Edge;
 use crate::belt::Memory;
 use crate::belt::up_to;
 use crate::belt::up_to_floats;
@@ -44,27 +45,38 @@ fn of_floats(row: &[f32], before: usize) -> usize {
     sum
 }
 
-// The sum with what is behind an edge.
-fn behind(bytes: &[u8], edge: usize, before: usize) -> usize {
-    let n = up_to(edge, bytes);
-    of_bytes(&bytes[n..], before)
+// The sum with what is between two places.
+fn between(bytes: &[u8], from: usize, to: usize, before: usize) -> usize {
+    let n = up_to(to, bytes);
+    let part = &bytes[..n];
+    let k = up_to(from, part);
+    of_bytes(&part[k..], before)
 }
 
-fn behind_floats(row: &[f32], edge: usize, before: usize) -> usize {
-    let n = up_to_floats(edge, row);
-    of_floats(&row[n..], before)
+fn floats_between(row: &[f32], from: usize, to: usize, before: usize) -> usize {
+    let n = up_to_floats(to, row);
+    let part = &row[..n];
+    let k = up_to_floats(from, part);
+    of_floats(&part[k..], before)
 }
 
-// The sum of the memory behind an edge.
-fn sum(m: Memory, cells: usize, records: usize) -> usize {
+// The sum with the cells between two edges.
+fn cells(m: Memory, from: Edge, to: Edge, before: usize) -> usize {
     let greys = m.greys;
     let rates = m.rates;
     let positions = m.positions;
+    let g = between(&greys, from.cells, to.cells, before);
+    let r = floats_between(&rates, from.cells, to.cells, g);
+    between(&positions, from.cells, to.cells, r)
+}
+
+// The sum with the cells and the records between two edges.
+fn sum(m: Memory, from: Edge, to: Edge, before: usize) -> usize {
     let starts = m.starts;
     let lengths = m.lengths;
-    let g = behind_floats(&rates, cells, behind(&greys, cells, 0));
-    let p = behind(&positions, cells, g);
-    behind(&lengths, records, behind(&starts, records, p))
+    let c = cells(m, from, to, before);
+    let s = between(&starts, from.records, to.records, c);
+    between(&lengths, from.records, to.records, s)
 }
 
 fn tell(is_kept: bool) {
@@ -86,12 +98,21 @@ fn judge(belt: Belt, all: usize, rest: usize) {
     show::text(b"\n");
 }
 
+fn edge_at(cells: usize, records: usize) -> Edge {
+    Edge {
+        cells: cells,
+        records: records,
+    }
+}
+
 // The run with the sums of the memory as it is.
 pub fn summed(belt: Belt) -> Belt {
     let m = belt.memory;
+    let edge = belt.edge;
+    let rest = sum(m, edge, edge_at(4096, 1024), 0);
     let mut next = belt;
-    next.all = sum(m, 0, 0);
-    next.rest = sum(m, belt.cells, belt.records);
+    next.rest = rest;
+    next.all = sum(m, edge_at(0, 0), edge, rest);
     next
 }
 
