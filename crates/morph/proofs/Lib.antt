@@ -7,4 +7,5 @@ pub mod Plan
 pub mod Ring
 pub mod Cell
 pub mod Rests
+pub mod Origin
 pub mod Numbers

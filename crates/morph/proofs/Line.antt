@@ -181,7 +181,7 @@ module _ {A : Type 0} (O : Order A) where
   -- ---- the front is the best
 
   -- an entry is over all of a list where it is over the list's best
-  over-best : (e r : Entry A) (l : List (Entry A)) → all (over O e) (r ∷ l) ≡ not (O .le (e .value) (best O (values (r ∷ l))))
+  pub over-best : (e r : Entry A) (l : List (Entry A)) → all (over O e) (r ∷ l) ≡ not (O .le (e .value) (best O (values (r ∷ l))))
   over-best e r [] = and-true _
   over-best e r (s ∷ l) =
       let i = over-best e s l in

@@ -8,5 +8,6 @@ pub mod Picture
 pub mod Plan
 pub mod Ring
 pub mod Cell
+pub mod Origin
 pub mod Numbers
 pub mod Inner
