@@ -1,25 +1,22 @@
 -- Where answers come from: the front of a queue is the latest position that gave the answer, and a picture's origin is the last pixel under the rectangle that has its value. By which idea: an entry
--- stands while no later value equals or passes it; and pixels that carry their column are pixels of another order, so that every law of lines and pictures holds of them.
+-- stands while no later value equals or passes it.
 use mathlib.Core.Path.{_≡_, refl, sym, ap, _∙_, subst}
 use mathlib.Core.Bool.{Bool, true, false, not, false≢true}
-use mathlib.Core.List.{List, [], _∷_, _++_, map}
+use mathlib.Core.List.{List, [], _∷_}
 use mathlib.Core.Logic.{_⊎_, inl, inr, ⊎-elim}
-use Prim.Native.Nat.{ℕ, zero, suc, _+_, _-_, _≤_, _<_, min}
-use native.Mathlib.Nat.{zero-add, suc-add, add-zero}
+use Prim.Native.Nat.{ℕ, _+_, _-_, _<_}
 use native.Mathlib.Omega.{arith}
 use borrow.Author.Tests.{ltb-true, ltb-false}
 use lib.Dec.{ltb}
-use lib.ListN.{length, take, drop, getD, length-map, length-drop, length-take, List·getD-map}
+use lib.ListN.{length, getD}
 use lib.Seq.{slice}
-use Rattle.morph.specs.declared.Kind.{Kind}
-use Rattle.morph.specs.declared.Kind.the-variants.{Erosion, Dilation}
 use Rattle.morph.specs.Order.{Order}
-use Rattle.morph.specs.Lists.{Each, In, all}
-use Rattle.morph.specs.Line.{Entry, positioned, best, bestAt, filterLine, standing, queue, front}
-use Rattle.morph.specs.Picture.{Picture, Wide, Stage, Covers, stageOf, applyStage, across, column}
+use Rattle.morph.specs.Lists.{In}
+use Rattle.morph.specs.Line.{Entry, positioned, best, bestAt, standing, queue, front}
+use Rattle.morph.specs.Picture.{Picture, Wide, Stage, Covers, applyStage, across, column}
 use Rattle.morph.specs.Plan.{window, columnQueue}
-use Rattle.morph.specs.Origin.{byValue, answerAt, LatestEntry, originRow, originColumn, pixelAt, LastPixel, carrying, carried}
-use Rattle.morph.proofs.Lists.{split, values, values-positioned, length-positioned, place-in, take-map, drop-map, map-map, map-each, each-weaken, each-getD, slice-in}
+use Rattle.morph.specs.Origin.{byValue, answerAt, LatestEntry, originRow, originColumn, pixelAt, LastPixel}
+use Rattle.morph.proofs.Lists.{split, values, values-positioned, place-in, each-getD, slice-in}
 use Rattle.morph.proofs.Line.{le-refl, best-greatest, over-best, queue-some, queue-sound, line-at, output-front}
 use Rattle.morph.proofs.Plan.{stage-front, across-at, column-length}
 
@@ -78,130 +75,6 @@ module _ {A : Type 0} (O : Order A) where
       split (ltb (e .position) (r .position)) (λ t. absurd (not-before e r h k (ltb-true _ _ t)))
       (λ t. split (ltb (r .position) (e .position)) (λ u. absurd (not-before r e k h (ltb-true _ _ u))) (λ u. omega (arith, ltb-false (e .position) (r .position) t, ltb-false (r .position) (e .position) u))) in
       ap (λ a. record { value = a; position = e .position }) v ∙ ap (λ n. record { value = r .value; position = n }) p
-
--- ---- a line of entries, compared by their values
-
-module _ {A : Type 0} where
-  abbrev part : Entry (Entry A) → Entry A
-  part e = record { value = e .value .value; position = e .position }
-
-  positioned-values : (k : ℕ) (l : List (Entry A)) → positioned k (values l) ≡ map part (positioned k l)
-  positioned-values k [] = refl
-  positioned-values k (e ∷ l) = ap (λ m. record { value = e .value; position = k } ∷ m) (positioned-values (suc k) l)
-
-  best-part : (O : Order A) (l : List (Entry (Entry A))) → part (best (byValue (byValue O)) l) ≡ best (byValue O) (map part l)
-  best-part O [] = refl
-  best-part O (e ∷ []) = refl
-  best-part O (e ∷ r ∷ l) =
-      let i = best-part O (r ∷ l) in
-      let j : best (byValue (byValue O)) (r ∷ l) .value .value ≡ best (byValue O) (map part (r ∷ l)) .value = ap (λ (a : Entry A). a .value) i in
-      split (O .le (e .value .value) (best (byValue O) (map part (r ∷ l)) .value))
-      (λ p. let q : O .le (e .value .value) (best (byValue (byValue O)) (r ∷ l) .value .value) ≡ true = rw j p in rw (p, q) i)
-      (λ p. let q : O .le (e .value .value) (best (byValue (byValue O)) (r ∷ l) .value .value) ≡ false = rw j p in rw (p, q))
-
-  take-values : (n : ℕ) (l : List (Entry A)) → take n (values l) ≡ values (take n l)
-  take-values zero l = refl
-  take-values (suc n) [] = refl
-  take-values (suc n) (e ∷ l) = ap (λ m. e .value ∷ m) (take-values n l)
-
-  drop-values : (n : ℕ) (l : List (Entry A)) → drop n (values l) ≡ values (drop n l)
-  drop-values zero l = refl
-  drop-values (suc n) [] = refl
-  drop-values (suc n) (e ∷ l) = drop-values n l
-
-  answer-part : (O : Order A) (back ahead : ℕ) (l : List (Entry A)) (x : ℕ) → part (answerAt (byValue O) back ahead l x) ≡ answerAt O back ahead (values l) x
-  unfolding answerAt
-  answer-part O back ahead l x = rw (take-values, drop-values, positioned-values) (best-part O (positioned (x - back) (slice (x - back) (x + ahead + 1) l)))
-
-  -- ---- the across-results with their columns
-
-  positioned-take : (n k : ℕ) (l : List A) → take n (positioned k l) ≡ positioned k (take n l)
-  positioned-take zero k l = refl
-  positioned-take (suc n) k [] = refl
-  positioned-take (suc n) k (a ∷ l) = ap (λ m. record { value = a; position = k } ∷ m) (positioned-take n (suc k) l)
-
-  positioned-drop : (n k : ℕ) (l : List A) → drop n (positioned k l) ≡ positioned (k + n) (drop n l)
-  positioned-drop zero k l = rw (add-zero k)
-  positioned-drop (suc n) k [] = refl
-  positioned-drop (suc n) k (a ∷ l) = let e : k + suc n ≡ suc k + n = omega arith in rw e (positioned-drop n (suc k) l)
-
-  pub carried-best : (O : Order A) (back ahead : ℕ) (row : List A) (x : ℕ) → bestAt (byValue O) back ahead (positioned 0 row) x ≡ answerAt O back ahead row x
-  unfolding bestAt answerAt
-  carried-best O back ahead row x = rw (positioned-take, positioned-drop, zero-add (x - back))
-
-module _ {A : Type 0} (S : Stage A) (W : ℕ) (p : Picture A) (wide : Wide W p) (x : ℕ) (h : x < W) where
-  abbrev O : Order A
-  O = S .order
-
-  -- what a row gives at x, and from which column
-  abbrev result : List A → Entry A
-  result row = answerAt O (S .back) (S .ahead) row x
-
-  abbrev results : List (Entry A)
-  results = map result p
-
-  pub carried-column : column (carrying S) x (across (carrying S) (carried p)) ≡ results
-  unfolding across
-  carried-column =
-      rw (map-map, map-map)
-      (map-each _ _ p (each-weaken _ _ p (λ row (l : length row ≡ W).
-      line-at (byValue O) (S .back) (S .ahead) (positioned 0 row) x (byValue O .blank) (rw length-positioned (omega arith)) ∙ carried-best O (S .back) (S .ahead) row x) wide))
-
-  values-results : values results ≡ column S x (across S p)
-  unfolding across
-  values-results = go p wide
-    where
-      go : (q : Picture A) → Wide W q → values (map result q) ≡ map (λ r. getD r x (O .blank)) (map (filterLine O (S .back) (S .ahead)) q)
-      go [] w = refl
-      go (row ∷ q) w =
-          let l : length row ≡ W = w .0 in
-          let e = answer-value O (S .back) (S .ahead) row x ∙ sym (line-at O (S .back) (S .ahead) row x (O .blank) (omega arith)) in
-          rw (e, go q (w .1))
-
-  -- after the step that gives row y, column x of pixels that carry their column has at its front the stage's value, its row and its column
-  module _ (y : ℕ) (k : y < length p) where
-    abbrev origin : Entry (Entry A)
-    origin = getD (columnQueue (carrying S) x (carried p) (y + S .below + 1)) 0 (byValue (byValue O) .blank)
-
-    origin-answer : origin ≡ answerAt (byValue O) (S .above) (S .below) results y
-    unfolding columnQueue
-    origin-answer = rw carried-column (answer-front (byValue O) (S .above) (S .below) results y)
-
-    pub origin-row : origin .position ≡ originRow S p y x
-    unfolding originRow
-    origin-row =
-        ap (λ (e : Entry (Entry A)). e .position) origin-answer
-        ∙ ap (λ (e : Entry A). e .position) (answer-part O (S .above) (S .below) results y ∙ ap (λ l. answerAt O (S .above) (S .below) l y) values-results)
-
-    pub origin-pixel : origin .value ≡ answerAt O (S .back) (S .ahead) (getD p (originRow S p y x) []) x
-    origin-pixel =
-        let a = answer-latest (byValue O) (S .above) (S .below) results y (rw length-map k) in
-        let n = answerAt (byValue O) (S .above) (S .below) results y in
-        let e : n .position ≡ originRow S p y x = ap (λ (e : Entry (Entry A)). e .position) (sym origin-answer) ∙ origin-row in
-        let t : n .position < length p = rw length-map at (a .there) in
-        ap (λ (e : Entry (Entry A)). e .value) origin-answer ∙ a .gives
-        ∙ getD-map-in p (n .position) t
-        ∙ ap (λ i. result (getD p i [])) e
-      where
-        getD-map-in : (q : Picture A) (i : ℕ) → i < length q → getD (map result q) i (byValue O .blank) ≡ result (getD q i [])
-        getD-map-in [] i l = absurd (omega arith)
-        getD-map-in (row ∷ q) zero l = refl
-        getD-map-in (row ∷ q) (suc i) l = getD-map-in q i (omega arith)
-
-    pub origin-column : origin .value .position ≡ originColumn S p y x
-    unfolding originColumn
-    origin-column = ap (λ (e : Entry A). e .position) origin-pixel
-
-    pub origin-value : origin .value .value ≡ bestAt O (S .above) (S .below) (column S x (across S p)) y
-    origin-value =
-        ap (λ (e : Entry (Entry A)). e .value .value) origin-answer
-        ∙ ap (λ (e : Entry A). e .value) (answer-part O (S .above) (S .below) results y ∙ ap (λ l. answerAt O (S .above) (S .below) l y) values-results)
-        ∙ answer-value O (S .above) (S .below) (column S x (across S p)) y
-
--- for either kind
-pub carrying-stage : {A : Type 0} (O : Order A) (kind : Kind) (a b c d : ℕ) → stageOf (byValue O) kind a b c d ≡ carrying (stageOf O kind a b c d)
-carrying-stage O Erosion a b c d = refl
-carrying-stage O Dilation a b c d = refl
 
 -- ---- the definition by the rectangle
 

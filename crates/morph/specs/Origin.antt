@@ -2,7 +2,7 @@
 -- picture's value is its origin, a row and a column.
 use mathlib.Core.Path.{_≡_}
 use mathlib.Core.Bool.{false}
-use mathlib.Core.List.{List, [], map}
+use mathlib.Core.List.{List, []}
 use mathlib.Core.Logic.{_⊎_}
 use Prim.Native.Nat.{ℕ, _+_, _-_, _≤_, _<_}
 use lib.ListN.{length, getD}
@@ -62,13 +62,3 @@ module _ {A : Type 0} (S : Stage A) where
     pub under : Covers (S .back) (S .ahead) (S .above) (S .below) p x y c r
     pub gives : pixelAt p r c ≡ pixelAt (applyStage S p) y x
     pub last : (r′ c′ : ℕ) → Covers (S .back) (S .ahead) (S .above) (S .below) p x y c′ r′ → (r < r′) ⊎ ((r ≡ r′) × (c < c′)) → S .order .le (pixelAt p r c) (pixelAt p r′ c′) ≡ false
-
-  -- ---- pixels that carry their column
-
-  -- the stage over such pixels: they are compared by their values alone
-  abbrev pub carrying : Stage (Entry A)
-  carrying = record { order = byValue (S .order); back = S .back; ahead = S .ahead; above = S .above; below = S .below }
-
--- a picture of such pixels
-abbrev pub carried : {A : Type 0} → Picture A → Picture (Entry A)
-carried p = map (positioned 0) p
