@@ -1,5 +1,5 @@
-/* The one-row filter for the scanner bench's firmware, a whole job in memory, and plans applied to whole pictures, for C99
- * and C++.
+/* The one-row filter for the scanner bench's firmware, without positions and with them, a whole job in memory, and plans
+ * applied to whole pictures, for C99 and C++.
  *
  * `rt staticlib firmware` proves them all and writes target/staticlib/libfirmware.a for x86-64 Linux; link that. None keeps
  * anything between calls or takes memory but of the stack, a job about 100 KB and the others a little, so calls may run
@@ -32,7 +32,7 @@ enum kelafshir_limit {
     KELAFSHIR_MOST_ROWS = 65535
 };
 
-/* The numbers that a call or a job can be refused with. The one-row filter gives 0, 2, 3, 4 and 7 only; a job in memory 0 to
+/* The numbers that a call or a job can be refused with. The one-row filters give 0, 2, 3, 4 and 7 only; a job in memory 0 to
  * 6, 8, 13, 14 and 15; a call on a whole picture 0 to 4, 6, 7 and, of floats, 8. */
 enum kelafshir_number {
     KELAFSHIR_DONE = 0,
@@ -53,6 +53,7 @@ enum kelafshir_number {
     KELAFSHIR_CELLS = 15,           /* a job needs over 4,096 cells */
     KELAFSHIR_NEGATIVE = 16,        /* a residue pixel would be negative */
     KELAFSHIR_FILTER_ORDER = 17,    /* the filter order is 0 or over 4 */
+    KELAFSHIR_OVER_ONE_STAGE = 20,  /* positions are asked of a plan of over one stage */
     KELAFSHIR_LAST_NUMBER = 28      /* a row of an open run is past the last number, 4,294,967,295 */
 };
 
@@ -71,6 +72,22 @@ enum kelafshir_number {
  */
 uint8_t kelafshir_filter_row(uint8_t kind, uint8_t left, uint8_t right, const uint8_t *row, size_t row_length, uint8_t *out,
                              size_t out_length);
+
+/* Filters one row as kelafshir_filter_row does, and tells where each of its pixels came from: positions[x] is the column
+ * that gave out[x], counted from 0, and the last one where several under the window have that value.
+ *
+ * positions_length is in positions, not in bytes. All three rows belong to the caller, have the lengths given with them and
+ * must not overlap. The row is only read.
+ *
+ * Answers KELAFSHIR_DONE, or the first of these that is so:
+ *   KELAFSHIR_STAGE_KIND   the kind is neither
+ *   KELAFSHIR_EXTENT       left or right is over 31
+ *   KELAFSHIR_SIZE         row_length is 0 or over 65,535
+ *   KELAFSHIR_ROW_LENGTH   out_length or positions_length is not row_length
+ * and then out and positions are as they were.
+ */
+uint8_t kelafshir_filter_row_positions(uint8_t kind, uint8_t left, uint8_t right, const uint8_t *row, size_t row_length,
+                                       uint8_t *out, size_t out_length, uint16_t *positions, size_t positions_length);
 
 /* What a job in memory comes to: a number, and how many bytes were written. */
 struct kelafshir_job_run {

@@ -7,6 +7,7 @@ mkdir -p $made/include
 # The kit has no C headers: these declare what the files here use, and nothing else.
 cat >$made/include/stdint.h <<'H'
 typedef __UINT8_TYPE__ uint8_t;
+typedef __UINT16_TYPE__ uint16_t;
 typedef __UINT32_TYPE__ uint32_t;
 H
 cat >$made/include/stddef.h <<'H'

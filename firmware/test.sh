@@ -1,5 +1,5 @@
 #!/bin/sh
-# Proves and builds the archive, builds the test of the one-row filter and the three examples over it with the kit's
+# Proves and builds the archive, builds the test of the one-row filters and the three examples over it with the kit's
 # own compiler, and runs them. On a machine that is not x86-64 they run under the kit's emulator. The last line is 'N passed, M failed'.
 set -eu
 cd "$(dirname "$0")/.."
@@ -9,8 +9,9 @@ rt staticlib firmware >$made/log 2>&1 || { cat $made/log; exit 1; }
 compile c++ c++11 firmware/kelafshir.h -fsyntax-only
 for name in test bench job picture; do program $name firmware/$name.c; done
 
-# The guards guard: one byte too far must be the end of the run.
+# The guards guard: one byte or position too far must be the end of the run.
 guarded 'a byte past the row is read' run $made/test beyond
+guarded 'a position past the row of positions is written' run $made/test beyond positions
 
 # The example: line P of document 01 dilated with left 1, right 2, twice; then a row cut short, which is 13.
 line_p='\3\1\4\1\5\11\2\6'

@@ -45,6 +45,8 @@ counted python3 tests/whole.py --self
 counted sh tests/whole.sh 500
 counted python3 tests/belts.py --self
 counted sh tests/belts.sh 100
+counted python3 tests/origins.py --self
+counted sh tests/origins.sh 100
 counted python3 tests/tool.py --program ./kelafshir
 counted python3 tests/first_hour.py
 echo "$passed passed, $failed failed"

@@ -1,5 +1,5 @@
 """Cases with their answers: a name, a job, and the answer to it. Document 01's, as far as the program can show them, its line P filtered
-twice, and float patterns."""
+twice, and float patterns. And lines with the positions that gave their values."""
 import struct
 
 from definition import DILATION, EROSION, FLOAT, GREY
@@ -72,6 +72,23 @@ def filtered_twice():
     yield 'two dilations', job([(DILATION, 1, 0, 0, 0), (DILATION, 2, 1, 0, 0)], [P]), out
     yield 'two dilations at once', job([(DILATION, 3, 1, 0, 0)], [P]), out
     yield 'not reflected', job([(EROSION, 1, 2, 0, 0), (DILATION, 2, 1, 0, 0)], [P]), full_run([[1, 1, 1, 2, 2, 2, 2, 2]])
+
+
+def lines():
+    """Kind, left, right and pixels of a line, the values that come out, and the positions that gave them, worked out by hand."""
+    yield EROSION, 1, 2, P, [1, 1, 1, 1, 1, 2, 2, 2], [1, 3, 3, 3, 3, 6, 6, 6]
+    yield DILATION, 1, 2, P, [3, 4, 4, 5, 9, 9, 9, 9], [0, 2, 2, 4, 5, 5, 5, 5]
+    for kind in EROSION, DILATION:
+        yield kind, 1, 1, [7, 7, 7], [7, 7, 7], [1, 2, 2]
+        yield kind, 31, 31, [5], [5], [0]
+
+
+def float_lines():
+    """The same of floats: the zeros are one value."""
+    for kind in EROSION, DILATION:
+        yield kind, 1, 0, [-0.0, 0.0], [0.0, 0.0], [0, 1] if kind == EROSION else [1, 1]
+        yield kind, 1, 1, [0.0, -0.0, 0.0, -0.0], [0.0] * 4, [1, 2, 3, 3]
+    yield EROSION, 1, 1, [2.5, -1.0, 0.5], [-1.0, -1.0, -1.0], [1, 1, 1]
 
 
 # Bit patterns of floats, what they are, and whether they are finite: by IEEE 754's table of binary32.

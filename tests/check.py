@@ -9,7 +9,8 @@ COUNT random jobs, small, tall and wide, whole and damaged, the same ones for th
 are fed in pieces; after them COUNT / 3 pairs of jobs that have the same answer, where a picture is filtered once and twice, or
 by two stages and by one. A difference is printed with its job in hexadecimal. --self needs no program: it holds definition.py to
 the tables' answers, those that document 01 prints among them, and to the laws of filtering twice on random jobs; and the random
-jobs to giving every number that the program can give, and late in tall jobs and in wide ones every number that a row can give.
+jobs to giving every number that the program can give, and late in tall jobs and in wide ones every number that a row can give;
+and its lines to a table with the positions that gave their values.
 """
 import argparse
 import collections
@@ -21,8 +22,8 @@ import struct
 import subprocess
 import sys
 
-from cases import tables
-from definition import GREY, answer
+from cases import float_lines, lines, tables
+from definition import DILATION, EROSION, GREY, Stage, answer, filtered, line_answers
 from jobs import narrow_jobs, random_jobs
 from twice import in_order, same_answers, values
 
@@ -151,6 +152,27 @@ def check_laws(rng, count):
     return passed, failed
 
 
+def check_lines(rng, count):
+    """definition.py's lines by the table; the last position of the longest line; and on random lines the same values as a picture's, and
+    positions as the best pair of a value and a position has them."""
+    def held(name, expected, got):
+        if expected != got:
+            print('DIFFERENCE %s\n  expected %s\n  got      %s' % (name, expected, got))
+        return expected == got
+
+    same = [held('line %s' % row, list(zip(values, positions)), line_answers(kind, left, right, row))
+             for kind, left, right, row, values, positions in [*lines(), *float_lines()]]
+    same += [held('65,535 alike', (7, 65534), line_answers(kind, 1, 1, [7] * 65535)[-1]) for kind in (EROSION, DILATION)]
+    for _ in range(count):
+        stage = Stage(rng.randrange(2), rng.randrange(32), rng.randrange(32), 0, 0)
+        row = [rng.randrange(rng.choice((2, 5, 256))) for _ in range(rng.randint(1, 80))]
+        sign = -1 if stage.kind == EROSION else 1
+        back, ahead = (stage.left, stage.right) if stage.kind == EROSION else (stage.right, stage.left)
+        pairs = [max((sign * row[q], q) for q in range(len(row)) if x - back <= q <= x + ahead) for x in range(len(row))]
+        same.append(held('line %s of %s' % (row, stage), list(zip(filtered(stage, [row])[0], [q for _, q in pairs])), line_answers(*stage[:3], row)))
+    return same.count(True), same.count(False)
+
+
 def main():
     words = argparse.ArgumentParser()
     words.add_argument('count', nargs='?', type=int, default=5000)
@@ -159,7 +181,7 @@ def main():
     words.add_argument('--program', default=str(TOP / 'kelafshir'))
     given = words.parse_args()
     rng = random.Random(given.seed)
-    parts = (check_definition(rng), check_laws(rng, 300)) if given.itself else (check_program(given.program, given.count, rng),)
+    parts = (check_definition(rng), check_laws(rng, 300), check_lines(rng, 100)) if given.itself else (check_program(given.program, given.count, rng),)
     passed, failed = map(sum, zip(*parts))
     print('%d passed, %d failed' % (passed, failed))
     return 1 if failed else 0

@@ -47,6 +47,19 @@ def filtered(stage, picture):
     return [[pixel(x, y) for x in range(len(row))] for y, row in enumerate(picture)]
 
 
+def line_answers(kind, left, right, row):
+    """Of each pixel of a filtered line its value and the position that gave it: of the positions in the cut window that have the value,
+    the latest."""
+    best = min if kind == EROSION else max
+    back, ahead = rectangle(Stage(kind, left, right, 0, 0))[:2]
+    answers = []
+    for x in range(len(row)):
+        window = range(max(0, x - back), min(len(row), x + ahead + 1))
+        value = best(row[q] for q in window)
+        answers.append((value, max(q for q in window if row[q] == value)))
+    return answers
+
+
 def after(plan, picture):
     """The picture after all stages."""
     for stage in plan:

@@ -1,18 +1,18 @@
 #!/usr/bin/env python3
-"""Writes the job vectors of crates/vectors: the jobs into data/, and the answers that definition.py gives them behind
-the line 'jobs' of stdout. The crate's program runs the same jobs, and the gate compares.
+"""Writes the vectors of crates/vectors: the lines and the jobs into data/, and what definition.py says of them behind
+the lines 'lines' and 'jobs' of stdout. The crate's program runs the same lines and jobs, and the gate compares.
 
     python3 tests/vectors.py [--list]
 
---list writes nothing and prints each job's file, the number that ends its answer, and its name.
+--list writes nothing and prints each line's file and what it is, and each job's file, the number that ends its answer, and its name.
 """
 import math
 import pathlib
 import struct
 import sys
 
-from cases import cases, job
-from definition import DILATION, EROSION, answer
+from cases import cases, float_lines, job, lines
+from definition import DILATION, EROSION, Stage, answer, line_answers, rectangle
 
 CRATE = pathlib.Path(__file__).resolve().parent.parent / 'crates' / 'vectors'
 
@@ -222,6 +222,50 @@ def wide():
     yield 'width 2,100, a not-a-number in column 2,090, a byte less', float_job(plan, spoiled)[:-1]
 
 
+EXTENTS = (0, 0), (0, 3), (3, 0), (1, 1), (5, 9), (31, 31), (31, 0), (0, 31)
+
+
+def drawn_lines(extents):
+    """Kind, left, right and pixels of lines below the window and beyond a queue's places: of 2, 5 and 256 values, and two slopes, which
+    fill a queue."""
+    for kind in EROSION, DILATION:
+        for at, (left, right) in enumerate(extents):
+            for length, count in (2, 2), (9, 5), (64, 2), (150, 256):
+                yield kind, left, right, [noise(x, at) % count for x in range(length)]
+            yield kind, left, right, [abs(x - 100) for x in range(200)]
+
+
+def drawn_float_lines():
+    """The same lines in floats: few values with both zeros among them, and many of both signs."""
+    few = -1.0, -0.0, 0.0, 0.5, -0.0
+    for kind, left, right, row in drawn_lines(EXTENTS[1::2]):
+        yield kind, left, right, [few[value] if max(row) < 5 else value / 8 - 12 for value in row]
+
+
+def told(kind, left, right, row, word):
+    """What the steps of a line tell: F times nothing yet, each pixel and the position that gave it, and a drain that is refused."""
+    ahead = rectangle(Stage(kind, left, right, 0, 0))[1]
+    return ':%s%s, refused 10\n' % (' -' * ahead, ''.join(' %s@%d' % (word(value), position) for value, position in line_answers(kind, left, right, row)))
+
+
+def longest():
+    """65,535 equal pixels, extents 31: what the last one read tells, and the drains."""
+    last = line_answers(EROSION, 31, 31, [7] * 65535)[-32:]
+    return '65535 alike:%s, refused 10\n' % ''.join(' %d@%d' % pair for pair in last)
+
+
+def all_lines():
+    """Each line's file, what it is, its bytes and what its steps tell."""
+    greys = [line[:4] for line in lines()] + list(drawn_lines(EXTENTS))
+    rates = [line[:4] for line in float_lines()] + list(drawn_float_lines())
+    for letter, group, packed, word in ('g', greys, bytes, str), ('r', rates, floats, lambda value: struct.pack('>f', value).hex()):
+        for at, (kind, left, right, row) in enumerate(group):
+            name = '%s, left %d, right %d, pixels %d' % (('eroded', 'dilated')[kind], left, right, len(row))
+            given = struct.pack('<BBBH', kind, left, right, len(row)) + packed(row)
+            # adding 0 reads a negative zero as positive zero
+            yield '%s%03d' % (letter, at), name, given, told(kind, left, right, [value + 0 for value in row], word)
+
+
 def jobs():
     for name, given, expected in cases():
         assert answer(given) == expected, name
@@ -233,21 +277,26 @@ def jobs():
 
 def main():
     is_list = sys.argv[1:] == ['--list']
-    files = [('j%03d' % at, name, given, answer(given)) for at, (name, given) in enumerate(jobs())]
+    line_files = list(all_lines())
+    job_files = [('j%03d' % at, name, given, answer(given)) for at, (name, given) in enumerate(jobs())]
     if is_list:
-        for file, name, _, told in files:
-            print(file, '%2d' % told[-1], name)
+        for file, name, _, _ in line_files:
+            print(file, '  ', name)
+        for file, name, _, expected in job_files:
+            print(file, '%2d' % expected[-1], name)
         return
     data = CRATE / 'data'
     data.mkdir(exist_ok=True)
     for old in data.iterdir():
         old.unlink()
-    for file, _, given, _ in files:
+    for file, _, given, _ in line_files + job_files:
         (data / file).write_bytes(given)
     stdout = CRATE / 'stdout'
-    lines = stdout.read_bytes().partition(b'jobs\n')[0]
-    stdout.write_bytes(lines + b'jobs\n' + b''.join(file.encode() + b'\n' + told + b'\n' for file, _, _, told in files))
-    print('%d jobs' % len(files))
+    by_hand = stdout.read_bytes().partition(b'lines\n')[0]
+    of_lines = {letter: ''.join(file + expected for file, _, _, expected in line_files if file[0] == letter) for letter in 'gr'}
+    of_jobs = b''.join(file.encode() + b'\n' + expected + b'\n' for file, _, _, expected in job_files)
+    stdout.write_bytes(by_hand + ('lines\n' + of_lines['g'] + longest() + of_lines['r']).encode() + b'jobs\n' + of_jobs)
+    print('%d lines, %d jobs' % (len(line_files), len(job_files)))
 
 
 if __name__ == '__main__':

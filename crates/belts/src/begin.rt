@@ -3,7 +3,6 @@ use crate::belt;
 use crate::belt::Belt;
 use crate::belt::Memory;
 use crate::belt::of_bytes;
-use crate::command;
 use crate::command::Command;
 use picture::Started;
 use picture::start;
@@ -14,14 +13,14 @@ use picture::stop;
 
 // A start: 0 and 2 take the plan by numbers, 1 and 3 by its record; 2 and 3 are open.
 fn started(c: Command, given: &[u8], starts: &mut [u8], lengths: &mut [u8]) -> Started {
-    let count = command::byte_at(given, 0);
-    let stages = command::stages(given);
+    let count = script::byte_at(given, 0);
+    let stages = script::stages(given);
     let which = c.op % 16;
     match which {
         0 => start_numbers(count, &stages, c.x, c.a, c.b, c.c, starts, lengths),
-        1 => start(command::record(given), c.x, c.a, c.b, c.c, starts, lengths),
+        1 => start(script::record(given), c.x, c.a, c.b, c.c, starts, lengths),
         2 => start_open_numbers(count, &stages, c.x, c.a, c.c, starts, lengths),
-        _ => start_open(command::record(given), c.x, c.a, c.c, starts, lengths),
+        _ => start_open(script::record(given), c.x, c.a, c.c, starts, lengths),
     }
 }
 
@@ -29,7 +28,7 @@ fn begun(belt: Belt, memory: Memory, r: Started) -> Belt {
     show::text(b"start: ");
     show::byte(r.number);
     let state = r.state;
-    belt::tell_state(state);
+    show::state(state);
     if r.number == 0 {
         return belt::now(belt, memory, state, belt::REST);
     }
@@ -57,7 +56,7 @@ fn end(belt: Belt) -> Belt {
     show::text(b"stop: ");
     show::byte(r.number);
     let state = r.state;
-    belt::tell_state(state);
+    show::state(state);
     belt::now(belt, m, state, belt::ALL)
 }
 

@@ -1,14 +1,13 @@
-// A run: its state, its memory and how much of that is lent; and what is told of the state.
+// A run: its state, its memory and how much of that is lent.
 ghost use mathlib.Core.Path.{_≡_};
 ghost use Prim.Native.Nat.{_≤_};
 ghost use lib.ListN.{length, take};
-use morph::Kind;
 use picture::Answer;
 use picture::Ending;
 use picture::State;
 use picture::Stepped;
-use plan_record::Plan;
-use plan_record::Stage;
+use script::up_to;
+use script::up_to_floats;
 
 // What a command has to leave alone: nothing, all of the memory, or what is behind the edge.
 pub const NOTHING: u8 = 0;
@@ -103,26 +102,7 @@ pub fn first() -> Belt {
     }
 }
 
-fn least(n: usize, most: usize) -> usize
-    ensures { λ r. ⌜ r ≤ most ⌝ }
-{
-    if n < most { n } else { most }
-}
-
-// So many of the bytes, or all. The second part of what it ensures follows from the first, and spares the caller a proof.
-pub fn up_to(n: usize, bytes: &[u8]) -> usize
-    ensures { λ r. ⌜ (r ≤ length (now (bytes .entry))) × (r ≡ length (take r (now (bytes .entry)))) ⌝ }
-{
-    least(n, bytes.len())
-}
-
-// The same of floats, and of arrays, whose length a caller does not have to show.
-pub fn up_to_floats(n: usize, row: &[f32]) -> usize
-    ensures { λ r. ⌜ (r ≤ length (now (row .entry))) × (r ≡ length (take r (now (row .entry)))) ⌝ }
-{
-    least(n, row.len())
-}
-
+// So many of an array, or all; the caller does not have to show its length.
 pub fn of_cells(n: usize, cells: &[u8; 4096]) -> usize
     ensures { λ r. ⌜ (r ≤ length (now (cells .entry))) × (r ≡ length (take r (now (cells .entry)))) ⌝ }
 {
@@ -168,68 +148,7 @@ pub fn still(belt: Belt, leaves: u8) -> Belt {
     next
 }
 
-// ---- what is told
-
-fn tell_ending(e: Ending) {
-    match e {
-        Ending::Fixed => {
-            show::text(b"; fixed, sample ");
-        }
-        Ending::Open => {
-            show::text(b"; open, sample ");
-        }
-        Ending::Stopped => {
-            show::text(b"; stopped, sample ");
-        }
-    }
-}
-
-// The state's fields but for the plan.
-pub fn tell_state(state: State) {
-    let e = state.ending;
-    tell_ending(e);
-    show::byte(state.sample);
-    show::text(b", width ");
-    show::number(state.width);
-    show::text(b", rows ");
-    show::number(state.rows);
-    show::text(b", step ");
-    show::number(state.step);
-}
-
-fn kind_number(k: Kind) -> u8 {
-    match k {
-        Kind::Erosion => 0,
-        Kind::Dilation => 1,
-    }
-}
-
-fn byte(n: u8) {
-    show::text(b" ");
-    show::byte(n);
-}
-
-fn tell_stage(s: Stage) {
-    let k = s.kind;
-    byte(kind_number(k));
-    byte(s.left);
-    byte(s.right);
-    byte(s.up);
-    byte(s.down);
-}
-
-// All 16 places of a plan, and how many of them are its stages.
-pub fn tell_plan(plan: Plan) {
-    show::text(b"; plan of ");
-    show::number(plan.count);
-    show::text(b":");
-    let mut i = 0;
-    while i < 16 {
-        let s = plan.stages[i];
-        tell_stage(s);
-        i += 1;
-    }
-}
+// ---- after a step
 
 // What a step has to leave alone: all where it is refused.
 fn leaves_of(a: Answer) -> u8 {

@@ -3,7 +3,6 @@ use crate::belt;
 use crate::belt::Belt;
 use crate::belt::Edge;
 use crate::belt::Lent;
-use crate::command;
 use crate::command::Command;
 use picture::Ending;
 use picture::State;
@@ -11,7 +10,7 @@ use picture::State;
 fn told(belt: Belt) -> Belt {
     let state = belt.state;
     show::text(b"state");
-    belt::tell_state(state);
+    show::state(state);
     belt::still(belt, belt::ALL)
 }
 
@@ -20,7 +19,7 @@ fn told_whole(belt: Belt) -> Belt {
     let next = told(belt);
     let state = next.state;
     let plan = state.plan;
-    belt::tell_plan(plan);
+    show::plan(plan);
     next
 }
 
@@ -51,7 +50,7 @@ fn fields(belt: Belt, c: Command) -> Belt {
 
 // Another plan in the state.
 fn planned(belt: Belt, given: &[u8]) -> Belt {
-    let plan = command::record(given);
+    let plan = script::record(given);
     let mut state = belt.state;
     state.plan = plan;
     let mut next = belt;

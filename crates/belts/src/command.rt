@@ -13,11 +13,7 @@
 ghost use mathlib.Core.Path.{_≡_};
 ghost use Prim.Native.Nat.{_≤_, _<_};
 ghost use lib.ListN.{length, take};
-use crate::belt::up_to;
-use morph::Kind;
-use morph::wide;
-use plan_record::Plan;
-use plan_record::Stage;
+use script::up_to;
 
 pub struct Command {
     pub op: u8,
@@ -30,20 +26,11 @@ pub struct Command {
     pub size: usize,
 }
 
-// Two bytes, low byte first.
-pub fn pair(low: u8, high: u8) -> usize
-    ensures { λ r. ⌜ r < 65536 ⌝ }
-{
-    wide(low) + wide(high) * 256
-}
-
 // The number at a place.
 fn number(bytes: &[u8; 43], at: usize) -> usize
     requires { ⌜ at < 36 ⌝ }
 {
-    let low = pair(bytes[at], bytes[at + 1]) + pair(bytes[at + 2], bytes[at + 3]) * 65536;
-    let high = pair(bytes[at + 4], bytes[at + 5]) + pair(bytes[at + 6], bytes[at + 7]) * 65536;
-    low + high * 4294967296
+    script::number(bytes, at)
 }
 
 // The next command; its number is 0 where there is none.
@@ -72,72 +59,4 @@ pub fn follow(from: i32, size: usize, room: &mut [u8]) -> usize
     let n = up_to(size, &room[..]);
     io::read_full(from, &mut room[..n]);
     up_to(n, &room[..])
-}
-
-// ---- plans: a count and 80 numbers
-
-// The byte at a place, or 0.
-pub fn byte_at(given: &[u8], i: usize) -> u8 {
-    if i < given.len() {
-        return given[i];
-    }
-    0
-}
-
-fn no_stages() -> [u8; 80]
-    ensures { λ r. ⌜ 80 ≡ length r ⌝ }
-{
-    [0; 80]
-}
-
-// The numbers of the stages.
-pub fn stages(given: &[u8]) -> [u8; 80] {
-    let mut numbers = no_stages();
-    let mut i = 0;
-    while i < 80 {
-        numbers[i] = byte_at(given, i + 1);
-        i += 1;
-    }
-    numbers
-}
-
-fn kind_of(n: u8) -> Kind {
-    if n == 0 {
-        return Kind::Erosion;
-    }
-    Kind::Dilation
-}
-
-fn stage_at(numbers: &[u8; 80], i: usize) -> Stage
-    requires { ⌜ i < 16 ⌝ }
-{
-    let at = i * 5;
-    Stage {
-        kind: kind_of(numbers[at]),
-        left: numbers[at + 1],
-        right: numbers[at + 2],
-        up: numbers[at + 3],
-        down: numbers[at + 4],
-    }
-}
-
-fn with_stage(plan: Plan, i: usize, stage: Stage) -> Plan
-    requires { ⌜ i < 16 ⌝ }
-{
-    let mut next = plan;
-    next.stages[i] = stage;
-    next
-}
-
-// The plan record of the numbers, whatever they are: the count, and all 16 places.
-pub fn record(given: &[u8]) -> Plan {
-    let numbers = stages(given);
-    let mut plan = plan_record::empty();
-    let mut i = 0;
-    while i < 16 {
-        plan = with_stage(plan, i, stage_at(&numbers, i));
-        i += 1;
-    }
-    plan.count = wide(byte_at(given, 0));
-    plan
 }

@@ -12,24 +12,14 @@ use picture::grey::drain;
 use picture::grey::read_out;
 use picture::grey::row;
 
-fn tell_row(out: &[u8]) {
-    show::text(b"; out");
-    let mut i = 0;
-    while i < out.len() {
-        show::text(b" ");
-        show::byte(out[i]);
-        i += 1;
-    }
-}
-
 // What a step answered, that much of the output row, and the state after it.
 fn told(belt: Belt, memory: Memory, s: Stepped, n: usize) -> Belt {
     let next = belt::stepped(belt, memory, s);
     let out = memory.out;
     let k = of_bytes(n, &out);
-    tell_row(&out[..k]);
+    show::bytes(b"; out", &out[..k]);
     let state = next.state;
-    belt::tell_state(state);
+    show::state(state);
     next
 }
 

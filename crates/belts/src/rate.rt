@@ -9,7 +9,6 @@ use crate::belt::of_bytes;
 use crate::belt::of_cells;
 use crate::belt::of_floats;
 use crate::belt::of_rates;
-use crate::command;
 use crate::command::Command;
 use picture::State;
 use picture::Stepped;
@@ -18,24 +17,14 @@ use picture::rate::drain;
 use picture::rate::read_out;
 use picture::rate::row;
 
-fn tell_row(out: &[f32]) {
-    show::text(b"; out");
-    let mut i = 0;
-    while i < out.len() {
-        show::text(b" ");
-        show::float(out[i]);
-        i += 1;
-    }
-}
-
 // What a step answered, that much of the output row, and the state after it.
 fn told(belt: Belt, memory: Memory, s: Stepped, n: usize) -> Belt {
     let next = belt::stepped(belt, memory, s);
     let out = memory.came;
     let k = of_floats(n, &out);
-    tell_row(&out[..k]);
+    show::floats(b"; out", &out[..k]);
     let state = next.state;
-    belt::tell_state(state);
+    show::state(state);
     next
 }
 
@@ -50,10 +39,10 @@ fn pixel(given: &[u8], at: usize) -> f32
     requires { ⌜ at < 4096 ⌝ }
 {
     let bytes = [
-        command::byte_at(given, at),
-        command::byte_at(given, at + 1),
-        command::byte_at(given, at + 2),
-        command::byte_at(given, at + 3),
+        script::byte_at(given, at),
+        script::byte_at(given, at + 1),
+        script::byte_at(given, at + 2),
+        script::byte_at(given, at + 3),
     ];
     sample::rate::from_bytes(&bytes, 0)
 }

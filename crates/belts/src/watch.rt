@@ -4,10 +4,10 @@ use crate::belt;
 use crate::belt::Belt;
 use crate::belt::Edge;
 use crate::belt::Memory;
-use crate::belt::up_to;
-use crate::belt::up_to_floats;
-use crate::command::pair;
 use morph::wide;
+use script::pair;
+use script::up_to;
+use script::up_to_floats;
 
 // The sum with one number more, which counts by its place.
 fn mixed(sum: usize, n: usize) -> usize

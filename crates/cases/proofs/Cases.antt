@@ -2,14 +2,17 @@
 use mathlib.Core.Path.{refl}
 use mathlib.Core.List.{flatten}
 use Rattle.morph.specs.Line.{outputAt, filterLine, bestAt, queue, comparisons, lineCost}
-use Rattle.morph.specs.Picture.{applyStage, applyPlan, lookAhead, rowAt}
+use Rattle.morph.specs.Origin.{answerAt, positionsLine, originRow, originColumn}
+use Rattle.morph.specs.Picture.{across, applyStage, applyPlan, lookAhead, rowAt}
 use Rattle.cases.specs.Table.{Cases}
 
 pub cases : Cases
-unfolding outputAt filterLine bestAt queue comparisons lineCost applyStage applyPlan lookAhead rowAt flatten
+unfolding outputAt filterLine bestAt answerAt positionsLine originRow originColumn queue comparisons lineCost across applyStage applyPlan lookAhead rowAt flatten
 cases = record {
   case1 = refl;
+  case1-positions = refl;
   case2 = refl;
+  case2-positions = refl;
   case3 = refl;
   case3-plan = refl;
   case4 = refl;
@@ -22,6 +25,7 @@ cases = record {
   case7-comparisons = refl;
   case7-queued = refl;
   case8 = refl;
+  case8-positions = refl;
   case8-queue = refl;
   case8-comparisons = refl;
   case9-dilated = λ v. refl;
@@ -30,4 +34,10 @@ cases = record {
   case10-eroded = refl;
   case10-opened = refl;
   case10-closed = refl;
+  case10-dilated-rows = refl;
+  case10-dilated-columns = refl;
+  case10-eroded-rows = refl;
+  case10-eroded-columns = refl;
+  crossed-rows = refl;
+  crossed-columns = refl;
 }

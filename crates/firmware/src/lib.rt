@@ -1,11 +1,11 @@
-// What the scanner bench's firmware links: plain C-callable functions, the one-row filter on numbers and two rows of grey bytes, a whole job in memory, and plans applied to whole pictures.
+// What the scanner bench's firmware links: plain C-callable functions, the one-row filter on numbers and two rows of grey bytes, the same with positions, a whole job in memory, and plans applied to whole pictures.
 // From C a row, a job, a picture or an output is a pointer and then a length. Those of a call may not overlap; nothing past any is read or written.
 
 ghost use mathlib.Core.Path.{_≡_};
 ghost use Rattle.sample.specs.Samples.{greys, rates};
 ghost use Rattle.job_run.specs.Run.{RunsJob};
 ghost use Rattle.firmware.specs.Picture.{FiltersStages};
-ghost use Rattle.firmware.specs.Row.{filterRowNumber, FiltersRow};
+ghost use Rattle.firmware.specs.Row.{filterRowNumber, FiltersRow, filterPositionsNumber, FiltersRowPositions};
 use job_run::JobRun;
 use whole_judge::Filtered;
 
@@ -43,6 +43,49 @@ pub extern "C" fn kelafshir_filter_row(
     let ahead = line_judge::ahead(which, left, right);
     sample::grey::copy(input, output);
     row_grey::across(which, back, ahead, output);
+    0
+}
+
+// The number of a call with positions, of rows of these three lengths: the row of positions is judged as the output row is.
+fn judge_both(kind: u8, left: u8, right: u8, pixels: usize, places: usize, columns: usize) -> u8
+    ensures { λ r. ⌜ r ≡ filterPositionsNumber kind left right pixels places columns ⌝ }
+{
+    let number = judge(kind, left, right, pixels, places);
+    if number != 0 {
+        return number;
+    }
+    judge(kind, left, right, pixels, columns)
+}
+
+// Filters the row `input` into the row `output`, writes to `positions` where each pixel of it came from, the latest position where several have its value, and answers 0; or answers the number of
+// a refusal, and writes nothing.
+#[no_mangle]
+pub extern "C" fn kelafshir_filter_row_positions(
+    kind: u8,
+    left: u8,
+    right: u8,
+    input: &[u8],
+    output: &mut [u8],
+    positions: &mut [u16],
+) -> u8
+    ensures { λ r. ⌜ FiltersRowPositions kind left right (now (input .entry)) (now (output .entry)) (now (positions .entry)) (now (output .exit)) (now (positions .exit)) r ⌝ }
+{
+    let number = judge_both(
+        kind,
+        left,
+        right,
+        input.len(),
+        output.len(),
+        positions.len(),
+    );
+    if number > 0 {
+        return number;
+    }
+    let which = line_judge::kind_of(kind);
+    let back = line_judge::back(which, left, right);
+    let ahead = line_judge::ahead(which, left, right);
+    sample::grey::copy(input, output);
+    row_origin_grey::across(which, back, ahead, output, positions);
     0
 }
 

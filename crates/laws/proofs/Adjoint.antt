@@ -8,11 +8,11 @@ use native.Mathlib.Omega.{arith}
 use Rattle.morph.specs.declared.Kind.{Kind}
 use Rattle.morph.specs.declared.Kind.the-variants.{Erosion, Dilation}
 use Rattle.morph.specs.Order.{Order, orderOf}
-use Rattle.morph.specs.Picture.{Picture, stageOf, erosion, dilation, opening, closing, applyStage, applyPlan}
+use Rattle.morph.specs.Picture.{Picture, pixelAt, stageOf, erosion, dilation, opening, closing, applyStage, applyPlan}
 use Rattle.morph.proofs.Line.{le-refl}
 use Rattle.plan_record.specs.declared.Stage.{Stage as StageRecord}
 use Rattle.plan_record.specs.Plan.{filterOf, openingStages}
-use Rattle.laws.specs.Laws.{Sized, pixelAt, Below}
+use Rattle.laws.specs.Laws.{Sized, Below}
 use Rattle.laws.proofs.Stage.{sized-stage, sized-plan, stage-over, stage-under}
 
 abbrev pub turned : {A : Type 0} → Order A → Order A

@@ -7,11 +7,11 @@ use Prim.Native.Nat.{ℕ, _+_, _≤_, _<_}
 use native.Mathlib.Omega.{arith}
 use lib.ListN.{length, getD}
 use Rattle.morph.specs.Line.{best}
-use Rattle.morph.specs.Picture.{Picture, Stage, Covers, under, applyStage, applyPlan}
+use Rattle.morph.specs.Picture.{Picture, pixelAt, Stage, Covers, under, applyStage, applyPlan}
 use Rattle.morph.proofs.Lists.{getD-tabulate, each-getD, in-place}
 use Rattle.morph.proofs.Line.{best-in, best-greatest}
 use Rattle.morph.proofs.Picture.{under-sound, under-complete, stage-wide, stage-length, plan-wide, plan-length}
-use Rattle.laws.specs.Laws.{Sized, pixelAt}
+use Rattle.laws.specs.Laws.{Sized}
 
 module _ {A : Type 0} (W H : ℕ) where
   pub row-wide : (p : Picture A) → Sized W H p → (y : ℕ) → y < H → length (getD p y []) ≡ W

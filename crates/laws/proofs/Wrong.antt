@@ -11,10 +11,10 @@ use lib.Ieee.{Float, nan, inf, fin, binary32, fits, lt, eq, le}
 use lib.Ieee.Scale.{finite}
 use Rattle.morph.specs.Grey.{grey}
 use Rattle.morph.specs.Rate.{rate}
-use Rattle.morph.specs.Picture.{Picture, erosion, dilation, opening, applyStage, applyPlan}
+use Rattle.morph.specs.Picture.{Picture, pixelAt, erosion, dilation, opening, applyStage, applyPlan}
 use Rattle.sample.proofs.Floats.{positiveZero}
 use Rattle.cases.specs.Table.{P, oneRow}
-use Rattle.laws.specs.Laws.{pixelAt, Below, Told, TwiceIsOnce}
+use Rattle.laws.specs.Laws.{Below, Told, TwiceIsOnce}
 
 -- `opened_above`: P's third pixel is 4, and 1 once P is opened
 pub opened-above : ((a b c d : ℕ) → Below grey 8 1 (oneRow P) (applyPlan (opening grey a b c d) (oneRow P))) → ⊥

@@ -1,13 +1,13 @@
 -- Filtering twice: what a plan, an opening or a dilation that is done again does to a picture. Stages and plans are those of morph/specs/Picture.antt; the order is any.
 use mathlib.Core.Path.{_≡_}
 use mathlib.Core.Bool.{true}
-use mathlib.Core.List.{List, [], _++_}
+use mathlib.Core.List.{List, _++_}
 use Prim.Native.Nat.{ℕ, _+_, _<_}
 use lib.Dec.{T}
 use lib.Ieee.{Float, binary32, fits}
-use lib.ListN.{length, getD}
+use lib.ListN.{length}
 use Rattle.morph.specs.Order.{Order}
-use Rattle.morph.specs.Picture.{Picture, Wide, Stage, erosion, dilation, applyStage, applyPlan, opening, closing, alternating}
+use Rattle.morph.specs.Picture.{Picture, pixelAt, Wide, Stage, erosion, dilation, applyStage, applyPlan, opening, closing, alternating}
 use Rattle.sample.specs.Rate.{accepted}
 use Rattle.plan_record.specs.declared.Plan.{Plan}
 use Rattle.plan_record.specs.Plan.{stagesOf}
@@ -16,10 +16,6 @@ use Rattle.plan_record.specs.Plan.{stagesOf}
 pub record Sized {A : Type 0} (W H : ℕ) (p : Picture A) : Type 0 where
   pub wide : Wide W p
   pub high : length p ≡ H
-
--- the pixel in row y and column x
-abbrev pub pixelAt : {A : Type 0} → Order A → Picture A → ℕ → ℕ → A
-pixelAt O p y x = getD (getD p y []) x (O .blank)
 
 -- "nowhere above": of two pictures of W columns and H rows, p's value is at most q's at each pixel
 abbrev pub Below : {A : Type 0} → Order A → ℕ → ℕ → Picture A → Picture A → Type 0

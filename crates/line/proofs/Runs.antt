@@ -6,9 +6,9 @@ use Prim.Native.Nat.{ℕ, zero, suc, _+_, _-_, _≤_, _<_, min}
 use native.Mathlib.Nat.{not-suc-le-zero, zero-sub}
 use native.Mathlib.Numerals.{add-one}
 use native.Mathlib.Omega.{arith}
-use borrow.Author.Tests.{leb-true, leb-false, lt-ltb}
+use borrow.Author.Tests.{leb-true, leb-false, le-leb, lt-ltb}
 use lib.Dec.{leb}
-use lib.ListN.{length, getD, length-map, length-drop, length-take}
+use lib.ListN.{length, take, getD, length-map, length-drop, length-take}
 use lib.Seq.{slice}
 use lib.Ieee.{Float}
 use lib.Ieee.Scale.{finite}
@@ -16,14 +16,16 @@ use Rattle.morph.specs.Order.{Order, aheadOf, kindOf}
 use Rattle.morph.specs.Rate.{plusZero}
 use Rattle.morph.specs.Lists.{tabulate, Each, In}
 use Rattle.morph.specs.Line.{Entry, outputAt, bestAt, filterLine, queue, lineCost, lineCosts}
-use Rattle.morph.proofs.Lists.{split, length-tabulate, getD-tabulate, take-tabulate, tabulate-snoc, each-map, each-weaken, each-tabulate, in-each, in-slice, place-in}
+use Rattle.morph.specs.Origin.{answerAt, positionsLine}
+use Rattle.morph.proofs.Lists.{split, length-tabulate, getD-tabulate, tabulate-ext, take-tabulate, tabulate-snoc, each-map, each-weaken, each-tabulate, in-each, in-slice, place-in}
 use Rattle.morph.proofs.Line.{best-in, queue-start, costs-bound}
+use Rattle.morph.proofs.Origin.{answer-value, answer-latest, latest-only}
 use Rattle.sample.specs.Samples.{Samples, rates}
 use Rattle.sample.specs.Rate.{accepted}
 use Rattle.sample.proofs.Floats.{accepted-plus}
 use Rattle.queue.proofs.Laws.{listed-none}
 use Rattle.line_judge.specs.Steps.{State, PixelSaid, pixel, notYet, refused, sayAt, firstLine, LineStart, Broken, ReadNumber, DrainNumber, Queue, LeftBy, pixelSaidOver, Accepts}
-use Rattle.line.specs.Runs.{LineRun, started, offered, drained, offer-refused, drain-refused, pixelOf, pixelComparisons, pixelsOf, together, order, back, ahead, lineWindow, takenLine, pixelSaidAt, LineRan}
+use Rattle.line.specs.Runs.{LineRun, started, offered, drained, offer-refused, drain-refused, pixelOf, pixelComparisons, entriesOf, pixelsOf, together, order, back, ahead, lineWindow, takenLine, pixelSaidAt, LineRan, LatestTold}
 use Rattle.line_judge.proofs.Numbers.{sound-broken, broken-sound, start-zero, read-zero, sound-read, sound-drain}
 use Rattle.line_judge.proofs.Steps.{SoundState}
 
@@ -34,12 +36,20 @@ getD-map f [] i d e h = absurd (not-suc-le-zero h)
 getD-map f (a ∷ l) zero d e h = refl
 getD-map f (a ∷ l) (suc i) d e h = getD-map f l i d e (omega arith)
 
+map-tabulate : {A B : Type 0} (g : A → B) (n : ℕ) (f : ℕ → A) → map g (tabulate n f) ≡ tabulate n (λ k. g (f k))
+map-tabulate g zero f = refl
+map-tabulate g (suc n) f = ap (λ l. g (f zero) ∷ l) (map-tabulate g n (λ k. f (suc k)))
+
+-- the first of a list that is tabulated
+first-tabulate : {A : Type 0} (n m : ℕ) (f : ℕ → A) → n ≤ m → take n (tabulate m f) ≡ tabulate n f
+first-tabulate n m f h = let e : min n m ≡ n = omega arith in take-tabulate n m f ∙ ap (λ k. tabulate k f) e
+
 module _ {A : Type 0} where
-  pixels-more : (said : List (PixelSaid A)) (a : PixelSaid A) → pixelsOf (said ++ (a ∷ [])) ≡ pixelsOf said ++ pixelsOf (a ∷ [])
-  pixels-more [] a = refl
-  pixels-more (pixel v n c ∷ said) a = ap (λ l. v ∷ l) (pixels-more said a)
-  pixels-more (notYet c ∷ said) a = pixels-more said a
-  pixels-more (refused n p ∷ said) a = pixels-more said a
+  entries-more : (said : List (PixelSaid A)) (a : PixelSaid A) → entriesOf (said ++ (a ∷ [])) ≡ entriesOf said ++ entriesOf (a ∷ [])
+  entries-more [] a = refl
+  entries-more (pixel e n c ∷ said) a = ap (λ l. e ∷ l) (entries-more said a)
+  entries-more (notYet c ∷ said) a = entries-more said a
+  entries-more (refused n p ∷ said) a = entries-more said a
 
   together-more : (said : List (PixelSaid A)) (a : PixelSaid A) → together (said ++ (a ∷ [])) ≡ together said + pixelComparisons a
   together-more [] a = omega arith
@@ -155,21 +165,23 @@ module _ {A : Type 0} (K : Samples A) (kind left right : ℕ) (raw : List A) whe
   pixel-at : (t : ℕ) → t < N + F → pixelOf (says t) ≡ outputAt N (bestAt (order K kind left right raw) (back K kind left right raw) F xs) F t
   unfolding sayAt outputAt
   pixel-at t h =
-      split (leb F t) (λ p. rw (p, lt-ltb (t - F) N (omega (arith, leb-true F t p)))) (λ p. rw p)
+      split (leb F t)
+      (λ p. rw (p, lt-ltb (t - F) N (omega (arith, leb-true F t p)), answer-value (order K kind left right raw) (back K kind left right raw) F xs (t - F)))
+      (λ p. rw p)
 
-  pixels-told : (n : ℕ) → pixelsOf (tabulate n says) ≡ tabulate (n - F) (bestAt (order K kind left right raw) (back K kind left right raw) F xs)
+  entries-told : (n : ℕ) → entriesOf (tabulate n says) ≡ tabulate (n - F) (answerAt (order K kind left right raw) (back K kind left right raw) F xs)
   unfolding sayAt
-  pixels-told zero = rw zero-sub
-  pixels-told (suc n) =
-      let i = pixels-told n in
+  entries-told zero = rw zero-sub
+  entries-told (suc n) =
+      let i = entries-told n in
       split (leb F n)
       (λ p.
       let e : suc n - F ≡ suc (n - F) = omega (arith, leb-true F n p) in
-      rw (tabulate-snoc n says, pixels-more (tabulate n says) (says n), p, e, tabulate-snoc (n - F), i))
+      rw (tabulate-snoc n says, entries-more (tabulate n says) (says n), p, e, tabulate-snoc (n - F), i))
       (λ p.
       let e : suc n - F ≡ 0 = omega (arith, leb-false F n p) in
       let e′ : n - F ≡ 0 = omega (arith, leb-false F n p) in
-      rw (tabulate-snoc n says, pixels-more (tabulate n says) (says n), p, e, append-nil, i, e′))
+      rw (tabulate-snoc n says, entries-more (tabulate n says) (says n), p, e, append-nil, i, e′))
 
   cost-told : (t : ℕ) → pixelComparisons (says t) ≡ lineCost (order K kind left right raw) (lineWindow K kind left right raw) xs t
   unfolding sayAt
@@ -185,28 +197,50 @@ module _ {A : Type 0} (K : Samples A) (kind left right : ℕ) (raw : List A) whe
 
     -- the theorem of a run: over pixels that are accepted ones, any run is the line's
     pub run-line : Good → LineRan K kind left right raw s said
-    unfolding filterLine
+    unfolding filterLine positionsLine
     run-line g =
         let i = going r in
         let O = order K kind left right raw in
         let b = step-bound in
         let w = lineWindow K kind left right raw in
         let t : together said ≡ lineCosts O w xs (s .step) = ap together (i .told g) ∙ costs-told (s .step) in
-        let m : min (s .step - F) (length xs) ≡ s .step - F = omega (arith, long) in
-        let best-at = bestAt O (back K kind left right raw) F xs in
-        let f : pixelsOf said ≡ tabulate (s .step - F) best-at = ap pixelsOf (i .told g) ∙ pixels-told (s .step) in
+        let m : s .step - F ≤ length xs = omega (arith, long) in
+        let B = back K kind left right raw in
+        let best-at = bestAt O B F xs in
+        let entries : entriesOf said ≡ tabulate (s .step - F) (answerAt O B F xs) = ap entriesOf (i .told g) ∙ entries-told (s .step) in
+        let f : pixelsOf said ≡ tabulate (s .step - F) best-at =
+        ap (map (λ e. e .value)) entries ∙ map-tabulate (λ e. e .value) (s .step - F) (answerAt O B F xs) ∙ tabulate-ext (s .step - F) _ best-at (λ k l. answer-value O B F xs k) in
         record {
           counted = ap length (i .told g) ∙ length-tabulate (s .step) says;
           bounded = b;
           queued = i .queued g;
           says = i .told g;
           outputs = λ j l. rw (i .told g, getD-tabulate (s .step) says j (notYet 0) l) (pixel-at j (omega arith));
-          filtered = f ∙ sym (take-tabulate (s .step - F) (length xs) best-at ∙ ap (λ n. tabulate n best-at) m);
+          filtered = f ∙ sym (first-tabulate (s .step - F) (length xs) best-at m);
+          positions = ap (map (λ e. e .position)) entries ∙ map-tabulate (λ e. e .position) (s .step - F) (answerAt O B F xs) ∙ sym (first-tabulate (s .step - F) (length xs) _ m);
           costs = t;
           few = omega (arith, t, costs-bound O w xs (omega arith) (s .step), long);
           member = λ v n.
               in-each (λ u. In u xs) (tabulate (s .step - F) best-at) v
               (each-tabulate _ (s .step - F) best-at (λ k l. answer-member O (back K kind left right raw) F xs k (omega (arith, long)))) (subst (In v) f n);
+        }
+
+    -- and each output has the latest position that gave it
+    pub run-latest : Good → (x : ℕ) → x + F < s .step → LatestTold K kind left right raw said x
+    unfolding sayAt
+    run-latest g x l =
+        let i = going r in
+        let O = order K kind left right raw in
+        let B = back K kind left right raw in
+        let b = step-bound in
+        let e : x + F - F ≡ x = omega arith in
+        let p = answer-latest O B F xs x (omega (arith, long)) in
+        record {
+          entry = answerAt O B F xs x;
+          comparisons = lineCost O (lineWindow K kind left right raw) xs (x + F);
+          says = rw (i .told g, getD-tabulate (s .step) says (x + F) (notYet 0) l, le-leb F (x + F) (omega arith), e);
+          latest = p;
+          only = λ other q. latest-only O B F xs x other (answerAt O B F xs x) q p;
         }
 
     -- a run leaves what the promises of the next call ask for

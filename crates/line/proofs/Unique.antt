@@ -169,24 +169,28 @@ rate-line l m e = ap rateOf e
 -- one constructor says nothing that another says, and what it holds is told
 
 pub grey-answer : (a b : Answer) → grey.greyPixel a ≡ grey.greyPixel b → a ≡ b
-grey-answer (Pixel v n c) (Pixel w m d) e = cc
-grey-answer (Pixel v n c) (NotYet d) e = cc
-grey-answer (Pixel v n c) (Refused m d) e = cc
-grey-answer (NotYet c) (Pixel w m d) e = cc
+grey-answer (Pixel v p n c) (Pixel w q m d) e =
+    let h : _≡_ {A = Entry ℕ} (record { value = v; position = p }) (record { value = w; position = q }) = cc in
+    cc (ap (λ (x : Entry ℕ). x .value) h, ap (λ (x : Entry ℕ). x .position) h)
+grey-answer (Pixel v p n c) (NotYet d) e = cc
+grey-answer (Pixel v p n c) (Refused m d) e = cc
+grey-answer (NotYet c) (Pixel w q m d) e = cc
 grey-answer (NotYet c) (NotYet d) e = cc
 grey-answer (NotYet c) (Refused m d) e = cc
-grey-answer (Refused n c) (Pixel w m d) e = cc
+grey-answer (Refused n c) (Pixel w q m d) e = cc
 grey-answer (Refused n c) (NotYet d) e = cc
 grey-answer (Refused n c) (Refused m d) e = cc
 
 pub rate-answer : (a b : RateAnswer) → rate.ratePixel a ≡ rate.ratePixel b → a ≡ b
-rate-answer (RatePixel v n c) (RatePixel w m d) e = cc
-rate-answer (RatePixel v n c) (RateNotYet d) e = cc
-rate-answer (RatePixel v n c) (RateRefused m d) e = cc
-rate-answer (RateNotYet c) (RatePixel w m d) e = cc
+rate-answer (RatePixel v p n c) (RatePixel w q m d) e =
+    let h : _≡_ {A = Entry Float} (record { value = v; position = p }) (record { value = w; position = q }) = cc in
+    cc (ap (λ (x : Entry Float). x .value) h, ap (λ (x : Entry Float). x .position) h)
+rate-answer (RatePixel v p n c) (RateNotYet d) e = cc
+rate-answer (RatePixel v p n c) (RateRefused m d) e = cc
+rate-answer (RateNotYet c) (RatePixel w q m d) e = cc
 rate-answer (RateNotYet c) (RateNotYet d) e = cc
 rate-answer (RateNotYet c) (RateRefused m d) e = cc
-rate-answer (RateRefused n c) (RatePixel w m d) e = cc
+rate-answer (RateRefused n c) (RatePixel w q m d) e = cc
 rate-answer (RateRefused n c) (RateNotYet d) e = cc
 rate-answer (RateRefused n c) (RateRefused m d) e = cc
 

@@ -22,7 +22,7 @@ greyLine l = record {
 }
 
 abbrev pub greyPixel : Answer → PixelSaid ℕ
-greyPixel (Pixel value number comparisons) = pixel value number comparisons
+greyPixel (Pixel value position number comparisons) = pixel (record { value = value; position = position }) number comparisons
 greyPixel (NotYet comparisons) = notYet comparisons
 greyPixel (Refused number position) = refused number position
 

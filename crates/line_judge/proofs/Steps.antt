@@ -12,7 +12,7 @@ use lib.ListN.{length, getD, set, replicate, length-set}
 use Rattle.morph.specs.declared.Kind.{Kind}
 use Rattle.morph.specs.declared.Kind.the-variants.{Erosion}
 use Rattle.morph.specs.Line.{queue, lineCost, found, refused}
-use Rattle.morph.specs.Ring.{wrap}
+use Rattle.morph.specs.Ring.{wrap, cellAt}
 use Rattle.morph.proofs.Lists.{split}
 use Rattle.morph.proofs.Line.{cost-drain}
 use Rattle.morph.specs.Order.{kindOf}
@@ -21,10 +21,11 @@ use Rattle.queue.specs.Queue.{listed}
 use Rattle.queue.specs.Inner.{goesOf, Roomed}
 use Rattle.queue.specs.declared.Room.{Room}
 use Rattle.queue.proofs.Laws.{listed-at}
-use Rattle.row.proofs.Row.{queue-next, queue-drained, front-answer}
+use Rattle.row.proofs.Row.{queue-next, queue-drained}
 use Rattle.line_judge.specs.Numbers.{lineStartNumber, lineReadNumber}
 use Rattle.line_judge.specs.Inner.{LineSound, onward}
 use Rattle.line_judge.specs.Steps.{State, PixelSaid, sayAt, Broken, ReadNumber, ReadOutNumber, O, B, F, L, LeftBy, pixelSaidOver, Refuses, Accepts, Answers, lineShown, firstLine, LineStart}
+use Rattle.row.proofs.Origins.{front-entry}
 use Rattle.line_judge.proofs.Numbers.{broken-sound}
 
 module _ {A : Type 0} (K : Samples A) (s : State A) where
@@ -47,19 +48,19 @@ module _ {A : Type 0} (K : Samples A) (s : State A) where
       fits = f;
     })
 
-    -- the oldest value is the line's answer
+    -- the oldest entry is the line's answer
     says-line : (xs : List A) → length xs ≡ s .pixels → listed K vs ps start count ≡ queue (O K s) (L K s) xs (suc (s .step)) → c ≡ lineCost (O K s) (L K s) xs (s .step)
-        → sayAt (F K s) (s .step) (getD vs start (K .order .blank)) c ≡ pixelSaidOver K s xs
+        → sayAt (F K s) (s .step) (cellAt (K .order .blank) vs ps start) c ≡ pixelSaidOver K s xs
     unfolding sayAt
     says-line xs n q e =
         split (leb (F K s) (s .step))
         (λ p.
-        rw (p, e, front-answer K (s .kind) (B K s) (F K s) xs (s .step) start count vs ps (omega arith) (omega arith) q (leb-true _ _ p)))
+        rw (p, e, front-entry K (s .kind) (B K s) (F K s) xs (s .step) start count vs ps (omega arith) (omega arith) q (leb-true _ _ p)))
         (λ p. rw (p, e))
 
     pub steps-on : (next : List A → Type 0)
         → ((xs : List A) → LeftBy K s xs → next xs → (listed K vs ps start count ≡ queue (O K s) (L K s) xs (suc (s .step))) × (c ≡ lineCost (O K s) (L K s) xs (s .step)))
-        → Accepts K s (sayAt (F K s) (s .step) (getD vs start (K .order .blank)) c) (onward K s vs ps start count) next
+        → Accepts K s (sayAt (F K s) (s .step) (cellAt (K .order .blank) vs ps start) c) (onward K s vs ps start count) next
     unfolding onward
     steps-on next g = record {
       kind-kept = refl;
@@ -68,7 +69,7 @@ module _ {A : Type 0} (K : Samples A) (s : State A) where
       pixels-kept = refl;
       counted = refl;
       sound = onward-sound;
-      value = getD vs start (K .order .blank);
+      entry = cellAt (K .order .blank) vs ps start;
       comparisons = c;
       says = refl;
       follows = λ xs r n. let (q, e) = g xs r n in record { queued = q ∙ ap (queue (O K s) (L K s) xs) (sym (add-one (s .step))); says = says-line xs (r .long) q e };
@@ -77,7 +78,7 @@ module _ {A : Type 0} (K : Samples A) (s : State A) where
   -- a step that reads v, as it is taken, from what the code finds on the way
   pub read-accepts : SoundState → s .step < s .pixels → length (s .values) ≡ 63 → length (s .positions) ≡ 63 → (v : A) (r : Room) (w p : ℕ) → w ≡ L K s → p ≡ s .step
       → Roomed K (s .kind) w (s .step) v (s .values) (s .positions) (s .start) (s .count) r → (a : PixelSaid A) (s′ : State A)
-      → a ≡ sayAt (F K s) (s .step) (getD (set (s .values) (r .at) v) (r .start) (K .order .blank)) (r .comparisons)
+      → a ≡ sayAt (F K s) (s .step) (cellAt (K .order .blank) (set (s .values) (r .at) v) (set (s .positions) (r .at) p) (r .start)) (r .comparisons)
       → s′ ≡ onward K s (set (s .values) (r .at) v) (set (s .positions) (r .at) p) (r .start) (r .count + 1) → Accepts K s a s′ (λ xs. getD xs (s .step) (K .order .blank) ≡ v)
   read-accepts h d l m v r w p i j g a s′ e f =
       let g′ = rw i at g in
@@ -90,7 +91,7 @@ module _ {A : Type 0} (K : Samples A) (s : State A) where
   -- a step that drains
   pub drain-accepts : SoundState → s .pixels ≤ s .step → s .step < s .pixels + F K s → length (s .values) ≡ 63 → (w gone next : ℕ) → w ≡ L K s
       → gone ≡ goesOf w (s .step) (s .count) (getD (s .positions) (s .start) 0) → next ≡ wrap 63 (s .start + gone) → next < 63 → (a : PixelSaid A) (s′ : State A)
-      → a ≡ sayAt (F K s) (s .step) (getD (s .values) next (K .order .blank)) 0 → s′ ≡ onward K s (s .values) (s .positions) next (s .count - gone) → Accepts K s a s′ (λ xs. Unit {0})
+      → a ≡ sayAt (F K s) (s .step) (cellAt (K .order .blank) (s .values) (s .positions) next) 0 → s′ ≡ onward K s (s .values) (s .positions) next (s .count - gone) → Accepts K s a s′ (λ xs. Unit {0})
   drain-accepts h p d l w gone next i j n b a s′ e f =
       let k : L K s ≤ length (s .values) = omega (arith, h .back-fits, h .ahead-fits) in
       let m = h .fits in

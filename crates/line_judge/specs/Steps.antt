@@ -9,7 +9,8 @@ use lib.ListN.{length, getD, replicate}
 use Rattle.morph.specs.declared.Kind.{Kind}
 use Rattle.morph.specs.Order.{Order, orderOf, backOf, aheadOf, kindOf}
 use Rattle.morph.specs.Lists.{Each}
-use Rattle.morph.specs.Line.{Entry, bestAt, queue, lineCost, Shown, found, refused as notShown}
+use Rattle.morph.specs.Line.{Entry, queue, lineCost, Shown, found, refused as notShown}
+use Rattle.morph.specs.Origin.{answerAt}
 use Rattle.sample.specs.Samples.{Samples}
 use Rattle.queue.specs.Queue.{listed}
 use Rattle.line_judge.specs.Numbers.{windowOf, lineStartNumber, broken, lineReadNumber, lineDrainNumber, lineReadOutNumber, placeOf}
@@ -28,16 +29,16 @@ pub record State (A : Type 0) : Type 0 where
   pub start : ℕ
   pub count : ℕ
 
--- "A step answers with an enum: a row with its number and the comparisons made, not yet with the comparisons made, or a refusal." Here the row is a pixel;
--- a refusal has document 01's number and the position that 8 names.
+-- "A step answers with an enum: a row with its number and the comparisons made, not yet with the comparisons made, or a refusal." Here the row is a pixel, an entry of its
+-- value and "the position that gave the value" (02, 2/13); a refusal has document 01's number and the position that 8 names.
 pub data PixelSaid (A : Type 0) : Type 0 where
-  pixel : A → ℕ → ℕ → PixelSaid A
+  pixel : Entry A → ℕ → ℕ → PixelSaid A
   notYet : ℕ → PixelSaid A
   refused : ℕ → ℕ → PixelSaid A
 
--- "Output x comes at step x + F": at step t the value is told as pixel t - F, once t has come so far
-unfoldable pub sayAt : {A : Type 0} → ℕ → ℕ → A → ℕ → PixelSaid A
-sayAt ahead t value comparisons = cond (leb ahead t) (pixel value (t - ahead) comparisons) (notYet comparisons)
+-- "Output x comes at step x + F": at step t the entry is told as pixel t - F, once t has come so far
+unfoldable pub sayAt : {A : Type 0} → ℕ → ℕ → Entry A → ℕ → PixelSaid A
+sayAt ahead t entry comparisons = cond (leb ahead t) (pixel entry (t - ahead) comparisons) (notYet comparisons)
 
 -- ---- the start
 
@@ -100,9 +101,9 @@ module _ {A : Type 0} (K : Samples A) (s : State A) where
     pub good : Each (λ a. K .good a ≡ true) xs
     pub queued : Queue ≡ queue O L xs (s .step)
 
-  -- what step t over the line xs says: "Output x comes at step x + F", with document 01's comparisons
+  -- what step t over the line xs says: "Output x comes at step x + F", with the position that gave it and document 01's comparisons
   abbrev pub pixelSaidOver : List A → PixelSaid A
-  pixelSaidOver xs = sayAt F (s .step) (bestAt O B F xs (s .step - F)) (lineCost O L xs (s .step))
+  pixelSaidOver xs = sayAt F (s .step) (answerAt O B F xs (s .step - F)) (lineCost O L xs (s .step))
 
 module _ {A : Type 0} (K : Samples A) (s : State A) (a : PixelSaid A) (s′ : State A) where
   -- "Every refusal returns its number (8 its column too) and the state as given"
@@ -124,9 +125,9 @@ module _ {A : Type 0} (K : Samples A) (s : State A) (a : PixelSaid A) (s′ : St
     pub pixels-kept : s′ .pixels ≡ s .pixels
     pub counted : s′ .step ≡ s .step + 1
     pub sound : Broken K s′ ≡ false
-    pub value : A
+    pub entry : Entry A
     pub comparisons : ℕ
-    pub says : a ≡ sayAt (F K s) (s .step) value comparisons
+    pub says : a ≡ sayAt (F K s) (s .step) entry comparisons
     pub follows : (xs : List A) → LeftBy K s xs → next xs → Follows xs
 
   -- a step is refused exactly where its number is not 0

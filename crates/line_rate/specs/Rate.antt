@@ -22,7 +22,7 @@ rateLine l = record {
 }
 
 abbrev pub ratePixel : Answer → PixelSaid Float
-ratePixel (Pixel value number comparisons) = pixel value number comparisons
+ratePixel (Pixel value position number comparisons) = pixel (record { value = value; position = position }) number comparisons
 ratePixel (NotYet comparisons) = notYet comparisons
 ratePixel (Refused number position) = refused number position
 

@@ -33,14 +33,14 @@ unfolding rowOf
 row-kept s q h k = let a = age-row s q h k in rw (lt-ltb (q % 128) 128 (mod-lt q (omega arith)), a, le-leb (s - q) s (omega arith)) (omega arith)
 
 -- what is read as a row that has been read
-row-read : (s r : ℕ) → rowOf s r < s → (r < 128) × (ageOf s r ≤ s) × (rowOf s r ≡ s - ageOf s r)
+pub row-read : (s r : ℕ) → rowOf s r < s → (r < 128) × (ageOf s r ≤ s) × (rowOf s r ≡ s - ageOf s r)
 unfolding rowOf
 row-read s r h =
     split (ltb r 128)
     (λ a. split (leb (ageOf s r) s) (λ b. (ltb-true r 128 a, leb-true (ageOf s r) s b, rw (a, b))) (λ b. absurd (let z : s < s = rw (a, b) at h in omega arith)))
     (λ a. absurd (let z : s < s = rw a at h in omega arith))
 
-age-some : (s r : ℕ) → (0 < ageOf s r) × (ageOf s r ≤ 128)
+pub age-some : (s r : ℕ) → (0 < ageOf s r) × (ageOf s r ≤ 128)
 unfolding ageOf
 age-some s r = let m : (s + 255 - r % 128) % 128 < 128 = mod-lt (s + 255 - r % 128) (omega arith) in (omega arith, omega arith)
 

@@ -13,9 +13,9 @@ use lib.Seq.{slice}
 use Rattle.morph.specs.Order.{Order}
 use Rattle.morph.specs.Lists.{In}
 use Rattle.morph.specs.Line.{Entry, positioned, best, bestAt, standing, queue, front}
-use Rattle.morph.specs.Picture.{Picture, Wide, Stage, Covers, applyStage, across, column}
+use Rattle.morph.specs.Picture.{Picture, pixelAt, Wide, Stage, Covers, applyStage, across, column}
 use Rattle.morph.specs.Plan.{window, columnQueue}
-use Rattle.morph.specs.Origin.{byValue, answerAt, LatestEntry, originRow, originColumn, pixelAt, LastPixel}
+use Rattle.morph.specs.Origin.{byValue, answerAt, LatestEntry, originRow, originColumn, LastPixel}
 use Rattle.morph.proofs.Lists.{split, values, values-positioned, place-in, each-getD, slice-in}
 use Rattle.morph.proofs.Line.{le-refl, best-greatest, over-best, queue-some, queue-sound, line-at, output-front}
 use Rattle.morph.proofs.Plan.{stage-front, across-at, column-length}
@@ -92,14 +92,14 @@ module _ {A : Type 0} (S : Stage A) (W : ℕ) (p : Picture A) (wide : Wide W p) 
       across-at S x p r ∙ line-at O′ (S .back) (S .ahead) (getD p r []) x (O′ .blank) (omega arith)
 
   -- a pixel of a row's window is not over the row's across-result
-  across-over : (r c : ℕ) → Covers (S .back) (S .ahead) (S .above) (S .below) p x y c r → O′ .le (pixelAt S p r c) (getD ups r (O′ .blank)) ≡ true
+  across-over : (r c : ℕ) → Covers (S .back) (S .ahead) (S .above) (S .below) p x y c r → O′ .le (pixelAt O′ p r c) (getD ups r (O′ .blank)) ≡ true
   unfolding bestAt
   across-over r c u =
       rw (across-best r (u .row))
-      (best-greatest O′ (slice (x - S .back) (x + S .ahead + 1) (getD p r [])) (pixelAt S p r c)
+      (best-greatest O′ (slice (x - S .back) (x + S .ahead + 1) (getD p r [])) (pixelAt O′ p r c)
       (slice-in (O′ .blank) (x - S .back) (x + S .ahead + 1) (getD p r []) c (omega (arith, u .left)) (omega (arith, u .right)) (u .column)))
 
-  front-pixel : front O′ (queue O′ (S .above + S .below + 1) ups (y + S .below + 1)) ≡ pixelAt S (applyStage S p) y x
+  front-pixel : front O′ (queue O′ (S .above + S .below + 1) ups (y + S .below + 1)) ≡ pixelAt O′ (applyStage S p) y x
   unfolding columnQueue
   front-pixel = sym (stage-front S W p wide y x (O′ .blank) k h)
 
@@ -114,7 +114,7 @@ module _ {A : Type 0} (S : Stage A) (W : ℕ) (p : Picture A) (wide : Wide W p) 
       let w : length (getD p r []) ≡ W = each-getD _ p r [] wide t in
       let b = answer-latest O′ (S .back) (S .ahead) (getD p r []) x (omega arith) in
       let f = answerAt O′ (S .back) (S .ahead) (getD p r []) x in
-      let here : pixelAt S p r (f .position) ≡ e .value = sym (b .gives) ∙ b .value ∙ sym (across-best r t) ∙ sym (a .gives) in
+      let here : pixelAt O′ p r (f .position) ≡ e .value = sym (b .gives) ∙ b .value ∙ sym (across-best r t) ∙ sym (a .gives) in
       record {
         under = record { left = b .left; right = b .right; up = a .left; down = a .right; row = t; column = b .there };
         gives = here ∙ a .value ∙ output-front O′ (S .above) (S .below) ups y ∙ front-pixel;
@@ -122,9 +122,9 @@ module _ {A : Type 0} (S : Stage A) (W : ℕ) (p : Picture A) (wide : Wide W p) 
             ⊎-elim
             (λ m. not-true _ (λ z.
             let g = a .last r′ m (u .down) (rw (column-length S x p 0) (u .row)) in
-            let z′ : O′ .le (e .value) (pixelAt S p r′ c′) ≡ true = rw here at z in
+            let z′ : O′ .le (e .value) (pixelAt O′ p r′ c′) ≡ true = rw here at z in
             false≢true (sym g ∙ O′ .trans _ _ _ z′ (across-over r′ c′ u))))
-            (λ (m, n). subst (λ v. O′ .le v (pixelAt S p r′ c′) ≡ false) (b .gives) (subst (λ i. O′ .le (f .value) (pixelAt S p i c′) ≡ false) m (b .last c′ n (u .right) (rw m (u .column)))))
+            (λ (m, n). subst (λ v. O′ .le v (pixelAt O′ p r′ c′) ≡ false) (b .gives) (subst (λ i. O′ .le (f .value) (pixelAt O′ p i c′) ≡ false) m (b .last c′ n (u .right) (rw m (u .column)))))
             l;
       }
     where
@@ -135,9 +135,9 @@ module _ {A : Type 0} (S : Stage A) (W : ℕ) (p : Picture A) (wide : Wide W p) 
   -- no other pixel is so
   pub last-only : (r c r′ c′ : ℕ) → LastPixel S p y x r c → LastPixel S p y x r′ c′ → (r ≡ r′) × (c ≡ c′)
   last-only r c r′ c′ a b =
-      let v : pixelAt S p r c ≡ pixelAt S p r′ c′ = a .gives ∙ sym (b .gives) in
-      let no : (r < r′) ⊎ ((r ≡ r′) × (c < c′)) → ⊥ = λ l. false≢true (sym (a .last r′ c′ (b .under) l) ∙ ap (O′ .le (pixelAt S p r c)) (sym v) ∙ le-refl O′ (pixelAt S p r c)) in
-      let on : (r′ < r) ⊎ ((r′ ≡ r) × (c′ < c)) → ⊥ = λ l. false≢true (sym (b .last r c (a .under) l) ∙ ap (O′ .le (pixelAt S p r′ c′)) v ∙ le-refl O′ (pixelAt S p r′ c′)) in
+      let v : pixelAt O′ p r c ≡ pixelAt O′ p r′ c′ = a .gives ∙ sym (b .gives) in
+      let no : (r < r′) ⊎ ((r ≡ r′) × (c < c′)) → ⊥ = λ l. false≢true (sym (a .last r′ c′ (b .under) l) ∙ ap (O′ .le (pixelAt O′ p r c)) (sym v) ∙ le-refl O′ (pixelAt O′ p r c)) in
+      let on : (r′ < r) ⊎ ((r′ ≡ r) × (c′ < c)) → ⊥ = λ l. false≢true (sym (b .last r c (a .under) l) ∙ ap (O′ .le (pixelAt O′ p r′ c′)) v ∙ le-refl O′ (pixelAt O′ p r′ c′)) in
       let rows : r ≡ r′ = same r r′ (λ l. no (inl l)) (λ l. on (inl l)) in
       (rows, same c c′ (λ l. no (inr (rows, l))) (λ l. on (inr (sym rows, l))))
     where

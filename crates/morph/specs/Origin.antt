@@ -10,10 +10,10 @@ use lib.Seq.{slice}
 use Rattle.morph.specs.Order.{Order}
 use Rattle.morph.specs.Lists.{tabulate}
 use Rattle.morph.specs.Line.{Entry, positioned, best, bestAt}
-use Rattle.morph.specs.Picture.{Picture, Stage, Covers, applyStage, across, column}
+use Rattle.morph.specs.Picture.{Picture, pixelAt, Stage, Covers, applyStage, across, column}
 
 module _ {A : Type 0} (O : Order A) where
-  -- entries in the order of their values: among equal ones `best` takes the last
+  -- entries, compared by their values: of those that are equal the last is the `best`
   abbrev pub byValue : Order (Entry A)
   byValue = record {
     le = λ e r. O .le (e .value) (r .value);
@@ -52,13 +52,9 @@ module _ {A : Type 0} (S : Stage A) where
   unfoldable pub originColumn : Picture A → ℕ → ℕ → ℕ
   originColumn p y x = answerAt (S .order) (S .back) (S .ahead) (getD p (originRow p y x) []) x .position
 
-  -- the pixel in row r and column c
-  abbrev pub pixelAt : Picture A → ℕ → ℕ → A
-  pixelAt p r c = getD (getD p r []) c (S .order .blank)
-
   -- The last pixel under the rectangle, row by row and each row from left to right, that has the value which comes out: every later one is less. `origin-last` proves that the origin is it, `last-only`
   -- that no other pixel is.
   pub record LastPixel (p : Picture A) (y x r c : ℕ) : Type 0 where
     pub under : Covers (S .back) (S .ahead) (S .above) (S .below) p x y c r
-    pub gives : pixelAt p r c ≡ pixelAt (applyStage S p) y x
-    pub last : (r′ c′ : ℕ) → Covers (S .back) (S .ahead) (S .above) (S .below) p x y c′ r′ → (r < r′) ⊎ ((r ≡ r′) × (c < c′)) → S .order .le (pixelAt p r c) (pixelAt p r′ c′) ≡ false
+    pub gives : pixelAt (S .order) p r c ≡ pixelAt (S .order) (applyStage S p) y x
+    pub last : (r′ c′ : ℕ) → Covers (S .back) (S .ahead) (S .above) (S .below) p x y c′ r′ → (r < r′) ⊎ ((r ≡ r′) × (c < c′)) → S .order .le (pixelAt (S .order) p r c) (pixelAt (S .order) p r′ c′) ≡ false

@@ -15,6 +15,10 @@ use Rattle.morph.specs.Line.{best, bestAt, filterLine, outputAt}
 abbrev pub Picture : Type 0 → Type 0
 Picture A = List (List A)
 
+-- the pixel in row y and column x
+abbrev pub pixelAt : {A : Type 0} → Order A → Picture A → ℕ → ℕ → A
+pixelAt O p y x = getD (getD p y []) x (O .blank)
+
 -- a picture of width w
 abbrev pub Wide : {A : Type 0} → ℕ → Picture A → Type 0
 Wide w p = Each (λ r. length r ≡ w) p

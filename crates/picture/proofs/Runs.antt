@@ -67,7 +67,7 @@ module _ {B : Type 0} (l : List B) (b : B) where
   long-more = length-append l (b ∷ []) ∙ add-one (length l)
 
   -- a list that begins with l and then b
-  begins-more : (m : List B) (d : B) → take (length (l ++ (b ∷ []))) m ≡ l ++ (b ∷ []) → (take (length l) m ≡ l) × (b ≡ getD m (length l) d)
+  pub begins-more : (m : List B) (d : B) → take (length (l ++ (b ∷ []))) m ≡ l ++ (b ∷ []) → (take (length l) m ≡ l) × (b ≡ getD m (length l) d)
   begins-more m d e =
       let f : take (suc (length l)) m ≡ l ++ (b ∷ []) = rw long-more at e in (
         sym (take-take (length l) (suc (length l)) m (omega arith)) ∙ ap (take (length l)) f ∙ take-append-seam l (b ∷ []),
@@ -90,7 +90,7 @@ module _ {A : Type 0} where
   filled-long n read h = rw (length-append, length-replicate) (omega arith)
 
 -- one more of a table
-table-more : {B : Type 0} (n : ℕ) (f : ℕ → B) (l : List B) (b : B) → l ≡ tabulate n f → b ≡ f n → l ++ (b ∷ []) ≡ tabulate (n + 1) f
+pub table-more : {B : Type 0} (n : ℕ) (f : ℕ → B) (l : List B) (b : B) → l ≡ tabulate n f → b ≡ f n → l ++ (b ∷ []) ≡ tabulate (n + 1) f
 table-more n f l b e g = ap (λ k. k ++ (b ∷ [])) e ∙ ap (λ c. tabulate n f ++ (c ∷ [])) g ∙ sym (tabulate-snoc n f) ∙ ap (λ m. tabulate m f) (sym (add-one n))
 
 module _ {A : Type 0} where

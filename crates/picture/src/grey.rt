@@ -8,3 +8,7 @@ pub use picture_grey::drain;
 pub use picture_grey::read_out;
 // promise: picture_state/specs/Step.antt `RowStep`
 pub use picture_grey::row;
+// promise: picture_origin/specs/Step.antt `OriginDrainStep`
+pub use picture_origin_grey::origin_drain;
+// promise: picture_origin/specs/Step.antt `OriginRowStep`
+pub use picture_origin_grey::origin_row;

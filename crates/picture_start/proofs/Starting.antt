@@ -269,18 +269,18 @@ module _ (count : ℕ) (bytes : List ℕ) (sample width rows cells records : ℕ
   unfolding numbersNumber
   numbers-read e = first-zero (planNumber count bytes) (after-plan plan-of sample width rows cells records) e .0
 
-  numbers-rest : planNumber count bytes ≡ 0 → startNumber plan-of sample width rows cells records ≡ numbered
+  pub numbers-rest : planNumber count bytes ≡ 0 → startNumber plan-of sample width rows cells records ≡ numbered
   unfolding startNumber numbersNumber
   numbers-rest e =
       first-skip (recordNumber plan-of) (after-plan plan-of sample width rows cells records) (judged-reading count bytes e)
       ∙ sym (first-skip (planNumber count bytes) (after-plan plan-of sample width rows cells records) e)
 
   module _ (R : Reading) (e : R ≡ planRead count bytes) where
-    read-number : R .number ≡ planNumber count bytes
+    pub read-number : R .number ≡ planNumber count bytes
     unfolding planRead
     read-number = ap (λ r. r .number) e
 
-    read-plan : planNumber count bytes ≡ 0 → R .plan ≡ plan-of
+    pub read-plan : planNumber count bytes ≡ 0 → R .plan ≡ plan-of
     unfolding planRead
     read-plan m = ap (λ r. r .plan) e ∙ simp (eq-eqb (planNumber count bytes) 0 m)
 

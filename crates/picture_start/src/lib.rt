@@ -7,6 +7,7 @@ mod begin; // begin.rt: starting a run
 mod open; // open.rt: starting an open run
 mod end; // end.rt: the stop of an open run
 
+pub use begin::not_started;
 pub use begin::start;
 pub use begin::start_numbers;
 pub use end::stop;

@@ -97,7 +97,7 @@ pub fn remainder(t: usize) -> u8
 }
 
 // How far before row s the nearest row stands of which a cell keeps r: 1 to 128.
-fn age(s: usize, r: u8) -> usize
+pub fn age(s: usize, r: u8) -> usize
     requires { ⌜ s ≤ 4294967800 ⌝ }
     ensures { λ a. ⌜ (a ≡ ageOf s r) × (a ≤ 128) × (0 < a) ⌝ }
 {

@@ -30,7 +30,7 @@ use Rattle.row.specs.Inner.{answerPut, Good, Read, Across, Drained}
 
 module _ {A : Type 0} (F R : List A) (e : length F ≡ length R) (ahead t : ℕ) where
   -- F's first answers before what is left of R
-  mixed : ℕ → List A
+  unfoldable pub mixed : ℕ → List A
   mixed k = take k F ++ drop k R
 
   mixed-next : (k : ℕ) (d v : A) → k < length R → v ≡ getD F k d → set (mixed k) k v ≡ mixed (suc k)
@@ -47,7 +47,7 @@ module _ {A : Type 0} (F R : List A) (e : length F ≡ length R) (ahead t : ℕ)
       let g = getD-append-add (take k F) (drop k R) (i - k) d in
       ap (λ j. getD (take k F ++ drop k R) j d) (sym s) ∙ g ∙ getD-drop k R (i - k) d ∙ ap (λ j. getD R j d) (omega arith)
 
-  answered-next : (d v : A) → t < length R + ahead → (ahead ≤ t → v ≡ getD F (t - ahead) d) → answerPut ahead t v (mixed (t - ahead)) ≡ mixed (t + 1 - ahead)
+  pub answered-next : (d v : A) → t < length R + ahead → (ahead ≤ t → v ≡ getD F (t - ahead) d) → answerPut ahead t v (mixed (t - ahead)) ≡ mixed (t + 1 - ahead)
   unfolding answerPut
   answered-next d v h p =
       split (leb ahead t)

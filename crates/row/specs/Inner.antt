@@ -10,6 +10,7 @@ use Rattle.morph.specs.declared.Kind.{Kind}
 use Rattle.morph.specs.Order.{orderOf}
 use Rattle.morph.specs.Lists.{Each}
 use Rattle.morph.specs.Line.{filterLine, queue, lineCosts}
+use Rattle.morph.specs.Origin.{positionsLine}
 use Rattle.sample.specs.Samples.{Samples}
 use Rattle.queue.specs.Queue.{listed}
 
@@ -41,8 +42,29 @@ module _ {A : Type 0} (K : Samples A) (kind : Kind) (back ahead : ℕ) (row : Li
     pub filtered : Good → row′ ≡ filterLine (orderOf kind (K .order)) back ahead row
     pub counted : Good → comparisons ≡ lineCosts (orderOf kind (K .order)) (back + ahead + 1) row (length row)
 
+  -- ---- with the position that gave each answer
+
+  -- After t steps: beside the row, where each answer so far came from stands before what the row of positions held.
+  pub record ReadOrigins (columns : List ℕ) (t : ℕ) (row′ : List A) (columns′ : List ℕ) (vs : List A) (ps : List ℕ) (start count comparisons : ℕ) : Type 0 where
+    pub read : Read t row′ vs ps start count comparisons
+    pub columns-long : length columns′ ≡ length columns
+    pub given : Good → columns′ ≡ take (t - ahead) (positionsLine (orderOf kind (K .order)) back ahead row) ++ drop (t - ahead) columns
+
+  -- The whole row, and the latest column of each pixel's window that gave it.
+  pub record AcrossOrigins (columns : List ℕ) (row′ : List A) (columns′ : List ℕ) (comparisons : ℕ) : Type 0 where
+    pub across : Across row′ comparisons
+    pub columns-long : length columns′ ≡ length columns
+    pub given : Good → columns′ ≡ positionsLine (orderOf kind (K .order)) back ahead row
+
 -- Draining, from where reading every pixel of some row left the answers and the queue, gives that row's whole answer.
 abbrev pub Drained : {A : Type 0} (K : Samples A) → ℕ → ℕ → List A → List A → List ℕ → ℕ → ℕ → List A → Type 0
 Drained {A} K back ahead row′ vs ps start count row″ =
     (length row″ ≡ length row′)
     × ((kind : Kind) (row : List A) (comparisons : ℕ) → Read K kind back ahead row (length row) row′ vs ps start count comparisons → Across K kind back ahead row row″ comparisons)
+
+-- The same with the positions.
+abbrev pub DrainedOrigins : {A : Type 0} (K : Samples A) → ℕ → ℕ → List A → List ℕ → List A → List ℕ → ℕ → ℕ → List A → List ℕ → Type 0
+DrainedOrigins {A} K back ahead row′ columns′ vs ps start count row″ columns″ =
+    (length row″ ≡ length row′) × (length columns″ ≡ length columns′)
+    × ((kind : Kind) (row : List A) (columns : List ℕ) (comparisons : ℕ) → length columns ≡ length row → ReadOrigins K kind back ahead row columns (length row) row′ columns′ vs ps start count comparisons
+    → AcrossOrigins K kind back ahead row columns row″ columns″ comparisons)

@@ -25,10 +25,10 @@ pub struct Pushed {
 }
 
 // What reading a whole row leaves beside the queue's two arrays: where it starts, how many entries it has, and the comparisons made.
-struct Passed {
-    start: usize,
-    count: usize,
-    comparisons: usize,
+pub struct Passed {
+    pub start: usize,
+    pub count: usize,
+    pub comparisons: usize,
 }
 
 // An empty queue.
@@ -86,7 +86,7 @@ pub fn front(q: RowQueue) -> Entry
 }
 
 // The answer v of step t is put in its place, if step t has one.
-fn answer(row: &mut [f32], ahead: usize, t: usize, v: f32)
+pub fn answer(row: &mut [f32], ahead: usize, t: usize, v: f32)
     requires { ⌜ t < length (now row) + ahead ⌝ }
     ensures { λ _. ⌜ now (row .exit) ≡ answerPut ahead t v (now (row .entry)) ⌝ }
 {

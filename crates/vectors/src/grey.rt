@@ -27,6 +27,7 @@ fn answer(a: Answer) {
     match a {
         Answer::Pixel {
             value,
+            position,
             number,
             comparisons,
         } => {
@@ -34,6 +35,8 @@ fn answer(a: Answer) {
             show::number(number);
             show::text(b" is ");
             show::byte(value);
+            show::text(b"@");
+            show::number(position);
             show::text(b", comparisons ");
             show::number(comparisons);
         }

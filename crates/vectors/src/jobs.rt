@@ -1,19 +1,14 @@
 // Whole jobs: each file j000, j001, .. of data/ goes through the program. A line with its name, the answer's bytes, and a line end.
+use crate::files;
 use program::input_of;
 use program::standard_output;
 
-fn digit(n: u8) -> u8 {
-    48 + n % 10
-}
-
 // Runs job n, and says whether there is one.
 fn one(n: u8) -> bool {
-    let name = [b'j', digit(n / 100), digit(n / 10), digit(n)];
-    let from = os::open_read(&name);
+    let from = files::open(b'j', n);
     if from < 0 {
         return false;
     }
-    show::text(&name);
     show::text(b"\n");
     program::run(input_of(from), standard_output());
     show::text(b"\n");

@@ -26,6 +26,7 @@ fn answer(a: Answer) {
     match a {
         Answer::Pixel {
             value,
+            position,
             number,
             comparisons,
         } => {
@@ -33,6 +34,8 @@ fn answer(a: Answer) {
             show::number(number);
             show::text(b" is ");
             show::float(value);
+            show::text(b"@");
+            show::number(position);
             show::text(b", comparisons ");
             show::number(comparisons);
         }

@@ -1,6 +1,7 @@
 -- `kelafshir_filter_row` meets its contract: the row is copied, and the copy filtered in place.
 use mathlib.Core.Path.{refl, sym}
 use native.Mathlib.Omega.{arith}
+use Rattle.morph.specs.Line.{filterLine}
 use Rattle.line_judge.proofs.Numbers.{back-fits, ahead-fits}
 use Rattle.firmware.proofs.Laws.{accepted, row-zero, filtered}
 use borrow.Author.Needs.{needs}
@@ -50,7 +51,7 @@ returns-2 c =
     record {
       told = sym z;
       refuses = λ h. absurd (h z);
-      filters = λ _. filtered (start .args .kind) _ _ _ _ _ (start .args .input .now) _ k (at-back .back .ensures .0) (at-copy .before .before .ahead .ensures .0) (at-copy .copy .ensures) (c .before .before .across .ensures .filtered);
+      filters = λ _. filtered filterLine (start .args .kind) _ _ _ _ _ (start .args .input .now) _ k (at-back .back .ensures .0) (at-copy .before .before .ahead .ensures .0) (at-copy .copy .ensures) (c .before .before .across .ensures .filtered);
     }
 
 pub kelafshir-filter-row-spec : {M : Type 1} → statement M

@@ -1,0 +1,4 @@
+pub mod Ring
+pub mod Stages
+pub mod Fronts
+pub mod Told

@@ -1,0 +1,2 @@
+pub mod OriginRuns
+pub mod OriginSame

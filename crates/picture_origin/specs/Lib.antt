@@ -1,0 +1,3 @@
+pub mod Numbers
+pub mod Step
+pub mod Inner
