@@ -1,5 +1,5 @@
-/* The one-row filter for the scanner bench's firmware, without positions and with them, a whole job in memory, and plans
- * applied to whole pictures, for C99 and C++.
+/* The one-row filter for the scanner bench's firmware, without positions and with them, a whole job in memory, plans
+ * applied to whole pictures, and the dark residue of a row, for C99 and C++.
  *
  * `rt staticlib firmware` proves them all and writes target/staticlib/libfirmware.a for x86-64 Linux; link that. None keeps
  * anything between calls or takes memory but of the stack, a job about 100 KB and the others a little, so calls may run
@@ -33,13 +33,14 @@ enum kelafshir_limit {
 };
 
 /* The numbers that a call or a job can be refused with. The one-row filters give 0, 2, 3, 4 and 7 only; a job in memory 0 to
- * 6, 8, 13, 14 and 15; a call on a whole picture 0 to 4, 6, 7 and, of floats, 8. */
+ * 6, 8, 13, 14 and 15; a call on a whole picture 0 to 4, 6, 7 and, of floats, 8; the residue 0, 3, 4, 7, 16 and 21. */
 enum kelafshir_number {
     KELAFSHIR_DONE = 0,
     KELAFSHIR_STAGE_COUNT = 1,      /* the stage count is 0 or over 16 */
     KELAFSHIR_STAGE_KIND = 2,       /* a stage kind is not erosion or dilation */
     KELAFSHIR_EXTENT = 3,           /* an extent is over 31 */
-    KELAFSHIR_SIZE = 4,             /* a width, a row count or a line's length is 0 or too large, or a run is stopped with no row read */
+    KELAFSHIR_SIZE = 4,             /* a width, a row count or a line's length is 0 or too large, a row number is not below the row
+                                       count, or a run is stopped with no row read */
     KELAFSHIR_SAMPLE_KIND = 5,      /* the sample kind is not grey or float, or not the state's */
     KELAFSHIR_MEMORY = 6,           /* too few queue cells, column records, bytes of output or places of a row are lent */
     KELAFSHIR_ROW_LENGTH = 7,       /* a row is not as long as the width, two rows differ, or a picture is not width x rows */
@@ -51,9 +52,10 @@ enum kelafshir_number {
     KELAFSHIR_ENDS_EARLY = 13,      /* a job ends early */
     KELAFSHIR_BYTES_AFTER = 14,     /* a job has bytes after its last row */
     KELAFSHIR_CELLS = 15,           /* a job needs over 4,096 cells */
-    KELAFSHIR_NEGATIVE = 16,        /* a residue pixel would be negative */
+    KELAFSHIR_NEGATIVE = 16,        /* a counted residue pixel would be negative */
     KELAFSHIR_FILTER_ORDER = 17,    /* the filter order is 0 or over 4 */
     KELAFSHIR_OVER_ONE_STAGE = 20,  /* positions are asked of a plan of over one stage */
+    KELAFSHIR_EMPTY_BAND = 21,      /* no pixel of the picture is counted */
     KELAFSHIR_LAST_NUMBER = 28      /* a row of an open run is past the last number, 4,294,967,295 */
 };
 
@@ -153,6 +155,28 @@ struct kelafshir_filtered kelafshir_filter_picture(const uint8_t *stages, size_t
  */
 struct kelafshir_filtered kelafshir_filter_rates(const uint8_t *stages, size_t stage_count, size_t width, size_t rows,
                                                  float *picture, size_t picture_length, float *row, size_t row_length);
+
+/* The dark residue of one row of a picture: how much a closing made it lighter, closed value minus input value, added up
+ * over the row's counted pixels. The picture's residue is the sum over its rows.
+ *
+ * left, right, up and down are the extents of the closing. Counted are the pixels from which no window of the closing
+ * reaches past the picture's edge: columns left + right to width - 1 - (left + right), the width being closed_length, of
+ * rows up + down to rows - 1 - (up + down). Rows are numbered from 0. A row outside adds 0. With all extents 0 every pixel
+ * is counted.
+ *
+ * Both rows and the place for the sum belong to the caller, and that place must not overlap a row. The rows have the lengths
+ * given with them and are only read; one whose length is 0 may be null.
+ *
+ * Answers KELAFSHIR_DONE and puts the row's sum at sum, whatever stood there, or the first of these that is so:
+ *   KELAFSHIR_EXTENT       an extent is over 31
+ *   KELAFSHIR_SIZE         closed_length is 0 or over 4,096, rows is 0 or over 65,535, or row is not below rows
+ *   KELAFSHIR_ROW_LENGTH   input_length is not closed_length
+ *   KELAFSHIR_EMPTY_BAND   no pixel of the picture is counted: told for each of its rows
+ *   KELAFSHIR_NEGATIVE     a counted closed value is below the input's
+ * and then sum is as it was.
+ */
+uint8_t kelafshir_dark(uint8_t left, uint8_t right, uint8_t up, uint8_t down, size_t row, size_t rows, const uint8_t *closed,
+                       size_t closed_length, const uint8_t *input, size_t input_length, uint64_t *sum);
 
 #ifdef __cplusplus
 }

@@ -1,4 +1,4 @@
-# What firmware/test.sh, tests/memory.sh and tests/whole.sh share: C with the kit's own compiler, over the archive. Read in with `.` at the top.
+# What firmware/test.sh, tests/memory.sh, tests/whole.sh and tests/dark.sh share: C with the kit's own compiler, over the archive. Read in with `.` at the top.
 kit=${RATTLE_HOME:-$(dirname "$(dirname "$(rt doc)")")}
 own=$kit/on/$(uname -m)
 made=target/firmware
@@ -9,6 +9,7 @@ cat >$made/include/stdint.h <<'H'
 typedef __UINT8_TYPE__ uint8_t;
 typedef __UINT16_TYPE__ uint16_t;
 typedef __UINT32_TYPE__ uint32_t;
+typedef __UINT64_TYPE__ uint64_t;
 H
 cat >$made/include/stddef.h <<'H'
 #ifndef NULL
@@ -23,6 +24,7 @@ extern FILE *stdin, *stdout, *stderr;
 size_t fread(void *, size_t, size_t, FILE *);
 size_t fwrite(const void *, size_t, size_t, FILE *);
 int fputs(const char *, FILE *);
+int printf(const char *, ...);
 int fflush(FILE *);
 H
 

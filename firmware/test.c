@@ -5,15 +5,10 @@
  * With a word on the command line it reads one byte too far on purpose, with two it writes one position too far, and must
  * die of it.
  */
+#include "guards.h"
 #include "kelafshir.h"
 
-int printf(const char *, ...);
-void *mmap(void *, size_t, int, int, int, long);
-int mprotect(void *, size_t, int);
-
-enum { GUARD = 65536, ROOM = 3 * 65536, BESIDE = 64, LONGEST = KELAFSHIR_LONGEST_ROW };
-
-static long passed, failed;
+enum { LONGEST = KELAFSHIR_LONGEST_ROW };
 
 /* A call: the kind and the extents, and how long its rows are, the row of positions NONE where it asks for none. */
 struct call {
@@ -25,31 +20,10 @@ static const size_t NONE = (size_t)-1;
 
 static void check(int is_right, const char *what, struct call c)
 {
-    if (is_right) {
-        passed++;
-        return;
-    }
-    failed++;
-    printf("WRONG %s: kind %u, left %u, right %u, lengths %zu and %zu", what, c.kind, c.left, c.right, c.row, c.out);
+    if (is_counted_right(is_right, what)) return;
+    printf("kind %u, left %u, right %u, lengths %zu and %zu", c.kind, c.left, c.right, c.row, c.out);
     if (c.positions != NONE) printf(", %zu positions", c.positions);
     printf("\n");
-}
-
-/* ---- rows against guards */
-
-static uint8_t *guarded_room(void)
-{
-    uint8_t *all = mmap(NULL, GUARD + ROOM + GUARD, 3, 0x22, -1, 0);    /* read and write; private, no file */
-    if (mprotect(all, GUARD, 0) != 0 || mprotect(all + GUARD + ROOM, GUARD, 0) != 0) __builtin_trap();
-    return all + GUARD;
-}
-
-static uint8_t *row_room, *out_room, *positions_room;
-
-/* Where a row begins that touches the front guard, or the back one. */
-static uint8_t *placed(uint8_t *room, size_t length, int at_back)
-{
-    return at_back ? room + ROOM - length : room;
 }
 
 /* ---- the plain loop */
@@ -82,75 +56,10 @@ static uint8_t judge(struct call c)
     return c.positions == NONE || c.row == c.positions ? KELAFSHIR_DONE : KELAFSHIR_ROW_LENGTH;
 }
 
-/* ---- pictures */
-
-static uint32_t state = 1;
-
-static uint8_t any_byte(void)
-{
-    state = (state ^ (state << 13)) & 0xffffffffu;
-    state ^= state >> 17;
-    state = (state ^ (state << 5)) & 0xffffffffu;
-    return (uint8_t)(state >> 11);
-}
-
-/* Noise, rising, falling, plateaus, two values or flat. */
-static void draw(uint8_t *row, size_t length, unsigned picture)
-{
-    uint8_t level = any_byte(), step = any_byte() & 3;
-    for (size_t x = 0; x < length; x++) {
-        uint8_t other = any_byte();
-        if (picture == 0 || (picture == 3 && (other & 7) == 0)) level = other;
-        if (picture == 1 && level <= 255 - step) level = (uint8_t)(level + step);
-        if (picture == 2 && level >= step) level = (uint8_t)(level - step);
-        if (picture == 4) level = other & 1 ? 200 : 100;
-        row[x] = level;
-    }
-}
-
 /* ---- one call */
 
-static uint8_t row_before[ROOM];
-
-static int same(const void *these, const void *those, size_t bytes)
-{
-    const uint8_t *a = these, *b = those;
-    for (size_t i = 0; i < bytes; i++)
-        if (a[i] != b[i]) return 0;
-    return 1;
-}
-
-static void copy(void *to, const void *from, size_t bytes)
-{
-    uint8_t *a = to;
-    const uint8_t *b = from;
-    for (size_t i = 0; i < bytes; i++) a[i] = b[i];
-}
-
-/* An output row: where it begins and its bytes; where these begin with those on its open side, and what all were before. */
-struct output {
-    uint8_t *at, *span;
-    size_t bytes;
-    uint8_t before[ROOM];
-};
-
+static uint8_t *row_room, *out_room, *positions_room, row_before[ROOM];
 static struct output out, positions;
-
-static void lay(struct output *o, uint8_t *room, size_t bytes, int at_back)
-{
-    o->at = placed(room, bytes, at_back);
-    o->span = at_back ? o->at - BESIDE : o->at;
-    o->bytes = bytes;
-    draw(o->span, bytes + BESIDE, 0);
-    copy(o->before, o->span, bytes + BESIDE);
-}
-
-/* Whether the row now holds this, or what it did where this is null; and the bytes beside it what they did. */
-static int holds(struct output *o, const void *due)
-{
-    if (due != NULL) copy(o->before + (o->at - o->span), due, o->bytes);
-    return same(o->span, o->before, o->bytes + BESIDE);
-}
 
 static uint8_t ask(struct call c, const uint8_t *row)
 {
@@ -270,9 +179,9 @@ static void test_longest(void)
 int main(int count, char **words)
 {
     (void)words;
-    row_room = guarded_room();
-    out_room = guarded_room();
-    positions_room = guarded_room();
+    row_room = guarded_room(ROOM);
+    out_room = guarded_room(ROOM);
+    positions_room = guarded_room(ROOM);
     if (count == 2) return kelafshir_filter_row(1, 1, 0, row_room + ROOM - 2, 3, out_room, 3);
     if (count == 3)
         return kelafshir_filter_row_positions(1, 1, 0, row_room, 3, out_room, 3,
@@ -283,6 +192,5 @@ int main(int count, char **words)
     test_refusals();
     test_position_refusals();
     test_longest();
-    printf("%ld passed, %ld failed\n", passed, failed);
-    return failed != 0;
+    return counts_told();
 }

@@ -1,17 +1,22 @@
 #!/bin/sh
-# Proves and builds the archive, builds the test of the one-row filters and the three examples over it with the kit's
-# own compiler, and runs them. On a machine that is not x86-64 they run under the kit's emulator. The last line is 'N passed, M failed'.
+# Proves and builds the archive, builds the tests of the one-row filters and of the dark residue and the four examples
+# over it with the kit's own compiler, and runs them. On a machine that is not x86-64 they run under the kit's emulator.
+# The last line is 'N passed, M failed'.
 set -eu
 cd "$(dirname "$0")/.."
 . firmware/kit.sh
 
 rt staticlib firmware >$made/log 2>&1 || { cat $made/log; exit 1; }
 compile c++ c++11 firmware/kelafshir.h -fsyntax-only
-for name in test bench job picture; do program $name firmware/$name.c; done
+for name in test test_dark bench job picture dark; do program $name firmware/$name.c; done
 
 # The guards guard: one byte or position too far must be the end of the run.
 guarded 'a byte past the row is read' run $made/test beyond
 guarded 'a position past the row of positions is written' run $made/test beyond positions
+for room in closed input sum; do
+    guarded "the residue takes a place past the room of '$room'" run $made/test_dark $room
+    guarded "the residue takes a place before the room of '$room'" run $made/test_dark $room before
+done
 
 # The example: line P of document 01 dilated with left 1, right 2, twice; then a row cut short, which is 13.
 line_p='\3\1\4\1\5\11\2\6'
@@ -60,4 +65,28 @@ misused; misused 6; misused 6 1 1; misused 6 -1; misused x 1
 status=0; head -c 1048577 /dev/zero | run $made/picture 1024 1 >$made/out || status=$?
 [ $status -eq 6 ] && [ ! -s $made/out ] || { echo "a picture that is too long for the example ends with $status"; exit 1; }
 
-run $made/test
+# The fourth example: the dark ends of a rod, cut by the picture's edge, do not count, and a pit of 5 in the 9 does. What is told is a
+# number and a line feed; where the band is empty it is 21 and nothing is told.
+example=dark usage='dark WIDTH HALF < picture'
+end='\0\11\11\11\11\11\11\0' pit='\0\11\11\11\5\11\11\0'
+ends_with 0 "$end$end$pit$end$end$end" 8 1
+[ "$(od -An -v -tx1 $made/out | tr -d ' \n')" = 340a ] || { echo "the residue is told as $(cat $made/out)"; exit 1; }
+ends_with 0 "$end$end$pit$end$end$end" 8 0
+[ "$(cat $made/out)" = 0 ] || { echo "the residue with no extents is told as $(cat $made/out)"; exit 1; }
+refused 21 "$end$end$pit$end" 8 1; refused 21 "$end$end$pit$end$end$end" 8 2; refused 21 '\1\2\3\4' 4 1
+refused 3 "$end" 8 32; refused 4 "$end" 0 1; refused 4 "$end" 4097 1; refused 4 '' 8 1; refused 7 "$end\1" 8 1
+misused; misused 8; misused 8 1 1; misused 8 -1; misused x 1
+status=0; head -c 1048577 /dev/zero | run $made/dark 1024 1 >$made/out || status=$?
+[ $status -eq 6 ] && [ ! -s $made/out ] || { echo "a picture that is too long for the residue's example ends with $status"; exit 1; }
+
+# Both tests, and their counts added up.
+passed=0 failed=0
+for name in test test_dark; do
+    status=0; run $made/$name >$made/said || status=$?
+    counts=$(sed -n '$s/^\([0-9][0-9]*\) passed, \([0-9][0-9]*\) failed$/\1 \2/p' $made/said)
+    [ -n "$counts" ] && [ $status -le 1 ] || { cat $made/said; echo "$name ends with $status"; exit 1; }
+    sed '$d' $made/said
+    passed=$((passed + ${counts% *})) failed=$((failed + ${counts#* }))
+done
+echo "$passed passed, $failed failed"
+[ $failed -eq 0 ]

@@ -43,6 +43,8 @@ counted sh firmware/test.sh
 counted sh tests/memory.sh 500
 counted python3 tests/whole.py --self
 counted sh tests/whole.sh 500
+counted python3 tests/dark.py --self
+counted sh tests/dark.sh 500
 counted python3 tests/belts.py --self
 counted sh tests/belts.sh 100
 counted python3 tests/origins.py --self

@@ -72,6 +72,41 @@ def look_ahead(plan):
     return sum(rectangle(stage)[3] for stage in plan)
 
 
+# ---- the dark residue: of a closing with these extents, left, right, up and down
+
+def closing(extents):
+    return [Stage(kind, *extents) for kind in (DILATION, EROSION)]
+
+
+def counted(extents, width, rows):
+    """The columns and the rows of the counted pixels: a+b to W-1-(a+b), and c+d to H-1-(c+d)."""
+    left, right, up, down = extents
+    last_column, last_row = width - 1 - (left + right), rows - 1 - (up + down)
+    return range(left + right, last_column + 1), range(up + down, last_row + 1)
+
+
+def row_residue(extents, row, rows, closed, given):
+    """The sum over the counted pixels of this row of the closed value minus the given one; or its refusal: 3, 4, 7, 21, 16."""
+    if max(extents) > 31:
+        raise Refusal(3)
+    if not 1 <= len(closed) <= 4096 or not 1 <= rows <= 65535 or row >= rows:
+        raise Refusal(4)
+    if len(given) != len(closed):
+        raise Refusal(7)
+    columns, counted_rows = counted(extents, len(closed), rows)
+    if not columns or not counted_rows:
+        raise Refusal(21)
+    residue = [closed[x] - given[x] for x in columns if row in counted_rows]
+    if any(value < 0 for value in residue):
+        raise Refusal(16)
+    return sum(residue)
+
+
+def picture_residue(extents, closed, given):
+    """The sum over its rows."""
+    return sum(row_residue(extents, row, len(given), *pair) for row, pair in enumerate(zip(closed, given)))
+
+
 # ---- the job
 
 def group(source, length):

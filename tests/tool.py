@@ -348,7 +348,7 @@ def numbers(_):
     page = (TOP / 'docs' / 'NUMBERS.md').read_text()
     header = (TOP / 'firmware' / 'kelafshir.h').read_text().partition('enum kelafshir_number')[2].partition('};')[0]
     in_header = [int(number) for number in re.findall(r'KELAFSHIR_\w+ = (\d+)', header)]
-    yield 'the numbers of the header', in_header, list(range(18)) + [20, 28]
+    yield 'the numbers of the header', in_header, list(range(18)) + [20, 21, 28]
     yield 'the numbers', list(tool.meanings()), in_header
     silent = [number for number, (says, asks) in tool.meanings().items() if not says or not asks.endswith('.')]
     yield 'each says and asks', silent, []

@@ -12,82 +12,12 @@
  * stages, picture or row, the outermost byte of that one is not there and lent nevertheless: the run must die of it.
  */
 #include "kelafshir.h"
+#include "lent.h"
 
-#include <stdio.h>
-
-void *mmap(void *, size_t, int, int, int, long);
-int mprotect(void *, size_t, int);
-
-enum { GUARD = 65536, BESIDE = 64, MARK = 0xa5 };
 enum what { GREY, FLOATS, JOB };
 enum number { WHAT, AT_BACK, STAGE_COUNT, WIDTH, ROWS, PICTURE_LENGTH, ROW_LENGTH, NUMBERS };
 
-/* The most bytes of a picture, a row or all stages of a call. */
-static const size_t room = 16777216;
-
-static uint8_t *guarded(void)
-{
-    uint8_t *all = mmap(NULL, GUARD + room + GUARD, 3, 0x22, -1, 0);    /* read and write; private, no file */
-    if (mprotect(all, GUARD, 0) != 0 || mprotect(all + GUARD + room, GUARD, 0) != 0) __builtin_trap();
-    return all + GUARD;
-}
-
-/* ---- the stream */
-
-static int is_read(uint8_t *bytes, size_t length)
-{
-    return fread(bytes, 1, length, stdin) == length;
-}
-
-static size_t number_of(const uint8_t *bytes)
-{
-    size_t number = 0;
-    for (int i = 7; i >= 0; i--) number = number << 8 | bytes[i];
-    return number;
-}
-
-static void put_number(uint8_t *bytes, size_t number)
-{
-    for (int i = 0; i < 8; i++) bytes[i] = (uint8_t)(number >> 8 * i);
-}
-
-static int is_written(const uint8_t *bytes, size_t length)
-{
-    return fwrite(bytes, 1, length, stdout) == length;
-}
-
-/* ---- what is lent */
-
-struct block {
-    uint8_t *room, *at, *open;    /* open: the bytes on the side without a guard */
-    size_t length;
-};
-
 static struct block stages, picture, row;
-
-/* Lends the next bytes of standard input. Those that are missing lie in the guard. No bytes at the front are NULL. */
-static int is_lent(struct block *block, size_t length, int at_back, size_t missing)
-{
-    size_t there = length - missing;
-    uint8_t *first = at_back ? block->room + room - there : block->room;
-    block->length = length;
-    block->at = at_back ? first : length == 0 ? NULL : first - missing;
-    block->open = at_back ? first - BESIDE : first + there;
-    for (size_t i = 0; i < BESIDE; i++) block->open[i] = MARK;
-    return is_read(first, there);
-}
-
-static int is_intact(const struct block *block)
-{
-    for (size_t i = 0; i < BESIDE; i++)
-        if (block->open[i] != MARK) return 0;
-    return 1;
-}
-
-static int is_block_written(const struct block *block)
-{
-    return is_written(block->at, block->length);
-}
 
 /* ---- one call */
 
@@ -128,13 +58,11 @@ static int is_all_lent(const size_t *given, char lacking)
 
 int main(int count, char **words)
 {
-    uint8_t numbers[8 * NUMBERS];
-    stages.room = guarded();
-    picture.room = guarded();
-    row.room = guarded();
-    while (is_read(numbers, sizeof numbers)) {
-        size_t given[NUMBERS];
-        for (int i = 0; i < NUMBERS; i++) given[i] = number_of(numbers + 8 * i);
+    stages.room = guarded_room(room);
+    picture.room = guarded_room(room);
+    row.room = guarded_room(room);
+    size_t given[NUMBERS];
+    while (are_read(given, NUMBERS)) {
         if (!is_all_lent(given, count > 1 ? words[1][0] : 0)) return 65;
         if (!is_answered(given)) return 74;
     }

@@ -4,9 +4,11 @@
 ghost use mathlib.Core.Path.{_≡_};
 ghost use Rattle.sample.specs.Samples.{greys, rates};
 ghost use Rattle.job_run.specs.Run.{RunsJob};
+ghost use Rattle.firmware.specs.Dark.{TellsDark};
 ghost use Rattle.firmware.specs.Picture.{FiltersStages};
 ghost use Rattle.firmware.specs.Row.{filterRowNumber, FiltersRow, filterPositionsNumber, FiltersRowPositions};
 use job_run::JobRun;
+use residue::Residue;
 use whole_judge::Filtered;
 
 // The number of a call, 0 where it is accepted, of rows of these two lengths.
@@ -135,4 +137,28 @@ pub extern "C" fn kelafshir_filter_rates(
     }
     let plan = reading.plan;
     whole_rate::apply(plan, width, rows, picture, row)
+}
+
+// The dark residue of row number `row` of a picture of `rows` rows, counted in the band of the closing's extents: puts it at `sum` and answers 0; or answers the number of a refusal, and writes nothing.
+#[no_mangle]
+pub extern "C" fn kelafshir_dark(
+    left: u8,
+    right: u8,
+    up: u8,
+    down: u8,
+    row: usize,
+    rows: usize,
+    closed: &[u8],
+    input: &[u8],
+    sum: &mut u64,
+) -> u8
+    ensures { λ r. ⌜ TellsDark left right up down row rows (now (closed .entry)) (now (input .entry)) (now (sum .entry)) (now (sum .exit)) r ⌝ }
+{
+    match residue::dark(left, right, up, down, row, rows, closed, input) {
+        Residue::Sum(found) => {
+            *sum = found as u64;
+            0
+        }
+        Residue::Refused(number) => number,
+    }
 }

@@ -25,7 +25,7 @@ module _ {A : Type 0} (W H : ℕ) where
   sized-plan Ss p z = record { wide = plan-wide Ss W p (z .wide); high = plan-length Ss p ∙ z .high }
 
 module _ {A : Type 0} (S : Stage A) (W H : ℕ) (p : Picture A) (z : Sized W H p) where
-  stage-pixel : (y x : ℕ) → y < H → x < W → pixelAt (S .order) (applyStage S p) y x ≡ best (S .order) (under S p y x)
+  pub stage-pixel : (y x : ℕ) → y < H → x < W → pixelAt (S .order) (applyStage S p) y x ≡ best (S .order) (under S p y x)
   unfolding applyStage
   stage-pixel y x h k =
       let e = z .high in

@@ -3,7 +3,8 @@ use mathlib.Core.Path.{_≡_, refl, _∙_, ap}
 use denote.Ref.{now}
 use Prim.Native.Nat.{ℕ, _-_, _≤_}
 use lib.ListN.{length}
-use Rattle.residue.specs.Residue.{darker, someTo, negative}
+use Rattle.residue.specs.Residue.{darker, someTo}
+use Rattle.residue.specs.Inner.{partNegative}
 use Rattle.residue.proofs.Laws.{some-next}
 use borrow.Author.Needs.{needs}
 use native.Mathlib.Omega.{arith}
@@ -38,7 +39,7 @@ loop-again : tie.Need-loop-again Inv-loop μ-loop
 loop-again c = (omega arith, some-next (c .before .before .before .before .loop .x) _ (c .marked .ensures) (c .before .before .before .before .loop .inv .1))
 
 returns : tie.Need-returns Inv-loop μ-loop
-unfolding negative
+unfolding partNegative
 returns c =
     let a = c .before .before .before .before .args in
     let e : c .before .loop .x ≡ length (now (a .closed)) = omega arith in

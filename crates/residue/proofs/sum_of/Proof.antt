@@ -5,7 +5,8 @@ use Prim.Native.Nat.{ℕ, _-_, _*_, _≤_}
 use borrow.Author.Tests.{ltb-false}
 use lib.ListN.{length, getD}
 use Rattle.morph.specs.Lists.{sumTo}
-use Rattle.residue.specs.Residue.{darker, negative, rowResidue}
+use Rattle.residue.specs.Residue.{darker}
+use Rattle.residue.specs.Inner.{partNegative, partResidue}
 use Rattle.residue.proofs.Laws.{sum-next, none-at}
 use native.Mathlib.Omega.{arith}
 use Rattle.residue.proofs.sum_of.Statement.{statement}
@@ -27,7 +28,7 @@ shared-slice-read-difference-2 : tie.Need-shared-slice-read-difference-2 Inv-loo
 shared-slice-read-difference-2 c = omega arith
 
 difference-requires : tie.Need-difference-requires Inv-loop μ-loop
-unfolding negative
+unfolding partNegative
 difference-requires c κs =
     let start = c .before .before .before .before .before .before in
     ltb-false _ _ (none-at (length (now (start .args .closed))) (darker (now (start .args .closed)) (now (start .args .input))) (start .pre .2) (c .before .before .before .loop .x) (c .before .before .loop-test .taken))
@@ -44,8 +45,11 @@ loop-less c = omega arith
 loop-again : tie.Need-loop-again Inv-loop μ-loop
 loop-again c = (omega arith, sum-next (c .before .before .before .before .loop .x) _ (c .before .before .before .before .loop .inv .1) (c .difference .ensures .0), omega arith)
 
+cast-result : tie.Need-cast-result Inv-loop μ-loop
+cast-result c = omega arith
+
 returns : tie.Need-returns Inv-loop μ-loop
-unfolding rowResidue
+unfolding partResidue
 returns c =
     let a = c .before .before .before .before .args in
     let e : c .before .loop .x ≡ length (now (a .closed)) = omega arith in
@@ -65,4 +69,5 @@ sum-of-spec =
     add-x
     loop-less
     loop-again
+    cast-result
     returns)
