@@ -1,50 +1,18 @@
 -- The band: a row's sum and its test are those of one part of the row, or 0 and false; which pixels are counted.
-use mathlib.Core.Path.{_≡_, refl, sym, ap, _∙_}
-use mathlib.Core.Bool.{Bool, true, false, cond, _&&_, _||_, false≢true}
+use mathlib.Core.Path.{_≡_, sym, ap, _∙_}
+use mathlib.Core.Bool.{Bool, true, false, cond, _&&_, false≢true}
 use mathlib.Core.List.{List}
-use Prim.Native.Nat.{ℕ, zero, suc, _+_, _-_, _*_, _≤_, _<_}
-use native.Mathlib.Nat.{add-zero, add-suc}
+use Prim.Native.Nat.{ℕ, _+_, _-_, _*_, _≤_, _<_}
 use native.Mathlib.Omega.{arith}
 use borrow.Author.Tests.{leb-true, leb-false, ltb-true, le-leb, lt-leb, lt-ltb, le-ltb}
 use lib.Dec.{leb, ltb}
 use lib.ListN.{length, take, drop, getD, length-take, length-drop}
 use lib.Seq.{getD-take, getD-drop}
 use Rattle.morph.specs.Lists.{sumTo}
-use Rattle.morph.proofs.Lists.{both, neither, split, sumTo-same}
+use Rattle.morph.proofs.Lists.{both, neither, split}
 use Rattle.residue.specs.Residue.{inBand, countedAt, emptyBand, someTo, darker, rowResidue, negative}
 use Rattle.residue.specs.Inner.{partResidue, partNegative}
-
--- ---- places that add nothing, before and behind a part
-
-module _ (f : ℕ → ℕ) where
-  sum-none : (n : ℕ) → ((k : ℕ) → k < n → f k ≡ 0) → sumTo n f ≡ 0
-  sum-none zero h = refl
-  sum-none (suc n) h = omega (arith, sum-none n (λ k l. h k (omega arith)), h n (omega arith))
-
-  sum-front : (lo n : ℕ) → ((k : ℕ) → k < lo → f k ≡ 0) → sumTo (lo + n) f ≡ sumTo n (λ k. f (lo + k))
-  sum-front lo zero h = rw (add-zero lo) (sum-none lo h)
-  sum-front lo (suc n) h = rw (add-suc lo n) (ap (λ (s : ℕ). s + f (lo + n)) (sum-front lo n h))
-
-  sum-back : (hi n : ℕ) → ((k : ℕ) → hi ≤ k → f k ≡ 0) → sumTo (hi + n) f ≡ sumTo hi f
-  sum-back hi zero h = rw (add-zero hi)
-  sum-back hi (suc n) h = rw (add-suc hi n) (omega (arith, sum-back hi n h, h (hi + n) (omega arith)))
-
-module _ (p : ℕ → Bool) where
-  pub some-none : (n : ℕ) → ((k : ℕ) → k < n → p k ≡ false) → someTo n p ≡ false
-  some-none zero h = refl
-  some-none (suc n) h = rw (h n (omega arith)) (some-none n (λ k l. h k (omega arith)))
-
-  some-front : (lo n : ℕ) → ((k : ℕ) → k < lo → p k ≡ false) → someTo (lo + n) p ≡ someTo n (λ k. p (lo + k))
-  some-front lo zero h = rw (add-zero lo) (some-none lo h)
-  some-front lo (suc n) h = rw (add-suc lo n) (ap (λ (s : Bool). p (lo + n) || s) (some-front lo n h))
-
-  some-back : (hi n : ℕ) → ((k : ℕ) → hi ≤ k → p k ≡ false) → someTo (hi + n) p ≡ someTo hi p
-  some-back hi zero h = rw (add-zero hi)
-  some-back hi (suc n) h = rw (add-suc hi n, h (hi + n) (omega arith)) (some-back hi n h)
-
-some-same : (n : ℕ) (p q : ℕ → Bool) → ((k : ℕ) → k < n → p k ≡ q k) → someTo n p ≡ someTo n q
-some-same zero p q h = refl
-some-same (suc n) p q h = rw (h n (omega arith), some-same n p q (λ k l. h k (omega arith)))
+use Rattle.residue.proofs.Totals.{total-none, total-same, total-cut, sum-total, some-total}
 
 -- ---- the band of n places, `reach` from both ends
 
@@ -84,11 +52,11 @@ module _ (a b c d row rows : ℕ) (closed input : List ℕ) where
     -- "A row outside that band adds 0.", and has nothing to test
     pub outside-sum : rowResidue a b c d row rows closed input ≡ 0
     unfolding rowResidue
-    outside-sum = sum-none term (length closed) (λ x _. rw out)
+    outside-sum = total-none 0 sumTo sum-total (length closed) term (λ x _. rw out)
 
     pub outside-test : negative a b c d row rows closed input ≡ false
     unfolding negative
-    outside-test = some-none test (length closed) (λ x _. rw out)
+    outside-test = total-none false someTo some-total (length closed) test (λ x _. rw out)
 
   module _ (within : inBand (c + d) rows row ≡ true) (across : 2 * (a + b) < length closed) where
     counted-in : (k : ℕ) → k < hi - lo → countedAt a b c d (length closed) rows row (lo + k) ≡ true
@@ -110,21 +78,15 @@ module _ (a b c d row rows : ℕ) (closed input : List ℕ) where
     pub band-sum : rowResidue a b c d row rows closed input ≡ partResidue (part closed) (part input)
     unfolding rowResidue partResidue
     band-sum =
-        let e : length closed ≡ hi + lo = omega arith in
-        let f : hi ≡ lo + (hi - lo) = omega arith in
-        ap (λ (n : ℕ). sumTo n term) e ∙ sum-back term hi lo (λ k h. rw (counted-behind k h)) ∙ ap (λ (n : ℕ). sumTo n term) f
-        ∙ sum-front term lo (hi - lo) (λ k h. rw (counted-before k h))
-        ∙ sumTo-same (hi - lo) (λ k. term (lo + k)) (λ k. getD (part closed) k 0 - getD (part input) k 0) (λ k h. rw (counted-in k h, part-at closed k h, part-at input k h))
+        total-cut 0 sumTo sum-total lo hi (length closed) term (λ k. getD (part closed) k 0 - getD (part input) k 0) (omega arith) (omega arith)
+        (λ k h. rw (counted-before k h)) (λ k h. rw (counted-behind k h)) (λ k h. rw (counted-in k h, part-at closed k h, part-at input k h))
         ∙ ap (λ (n : ℕ). sumTo n (λ k. getD (part closed) k 0 - getD (part input) k 0)) (sym part-long)
 
     pub band-test : negative a b c d row rows closed input ≡ partNegative (part closed) (part input)
     unfolding negative partNegative
     band-test =
-        let e : length closed ≡ hi + lo = omega arith in
-        let f : hi ≡ lo + (hi - lo) = omega arith in
-        ap (λ (n : ℕ). someTo n test) e ∙ some-back test hi lo (λ k h. rw (counted-behind k h)) ∙ ap (λ (n : ℕ). someTo n test) f
-        ∙ some-front test lo (hi - lo) (λ k h. rw (counted-before k h))
-        ∙ some-same (hi - lo) (λ k. test (lo + k)) (darker (part closed) (part input)) (λ k h. rw (counted-in k h, part-at closed k h, part-at input k h))
+        total-cut false someTo some-total lo hi (length closed) test (darker (part closed) (part input)) (omega arith) (omega arith)
+        (λ k h. rw (counted-before k h)) (λ k h. rw (counted-behind k h)) (λ k h. rw (counted-in k h, part-at closed k h, part-at input k h))
         ∙ ap (λ (n : ℕ). someTo n (darker (part closed) (part input))) (sym part-long)
 
 -- ---- the band of a picture
@@ -155,8 +117,8 @@ module _ (row rows : ℕ) (closed input : List ℕ) (there : row < rows) where
 
   pub band-whole : rowResidue 0 0 0 0 row rows closed input ≡ partResidue closed input
   unfolding rowResidue partResidue
-  band-whole = sumTo-same (length closed) (term 0 0 0 0 row rows closed input) (λ x. getD closed x 0 - getD input x 0) (λ x h. rw (all-counted x h))
+  band-whole = total-same 0 sumTo sum-total (length closed) (term 0 0 0 0 row rows closed input) (λ x. getD closed x 0 - getD input x 0) (λ x h. rw (all-counted x h))
 
   pub test-whole : negative 0 0 0 0 row rows closed input ≡ partNegative closed input
   unfolding negative partNegative
-  test-whole = some-same (length closed) (test 0 0 0 0 row rows closed input) (darker closed input) (λ x h. rw (all-counted x h))
+  test-whole = total-same false someTo some-total (length closed) (test 0 0 0 0 row rows closed input) (darker closed input) (λ x h. rw (all-counted x h))

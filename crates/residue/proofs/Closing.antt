@@ -21,10 +21,11 @@ use Rattle.plan_record.specs.Numbers.{sizeNumber}
 use Rattle.laws.specs.Laws.{Sized}
 use Rattle.laws.proofs.Stage.{row-wide, stage-pixel, sized-stage, sized-plan}
 use Rattle.laws.proofs.Adjoint.{closed-above}
-use Rattle.residue.specs.Residue.{inBand, countedAt, emptyBand, rowResidue, negative, residueNumber, RowsAnswered}
+use Rattle.residue.specs.Residue.{inBand, countedAt, emptyBand, someTo, rowResidue, negative, residueNumber, RowsAnswered}
 use Rattle.residue.specs.Closing.{Uncut, ClosingUncut, CutOut}
 use Rattle.residue.proofs.Laws.{taken-rows}
-use Rattle.residue.proofs.Band.{some-none, in-band, band-in}
+use Rattle.residue.proofs.Totals.{total-none, some-total}
+use Rattle.residue.proofs.Band.{in-band, band-in}
 
 -- ---- a counted pixel is one from which no window of the closing is cut
 
@@ -133,7 +134,7 @@ module _ (a b c d W H : ℕ) (p : Picture ℕ) (z : Sized W H p) where
   unfolding negative
   closing-not-negative y rows h =
       let w = row-wide W H closed sized y h in
-      some-none _ (length (getD closed y [])) (λ x k.
+      total-none false someTo some-total (length (getD closed y [])) _ (λ x k.
       let above = leb-true _ _ (closed-above grey W H a b c d p z y x h (omega (arith, w))) in
       rw (le-ltb (pixelAt grey closed y x) (pixelAt grey p y x) above) (split (countedAt a b c d (length (getD closed y [])) rows y x) (λ t. rw t) (λ t. rw t)))
 

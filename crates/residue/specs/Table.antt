@@ -68,7 +68,7 @@ pub record BandCases : Type 0 where
   pub right-32 : darkBy 0 32 0 0 0 5 (nines 7) rising ≡ Refused 3
   pub up-32 : darkBy 0 0 32 0 0 5 (nines 7) rising ≡ Refused 3
   pub down-32 : darkBy 0 0 0 32 0 5 (nines 7) rising ≡ Refused 3
-  -- two at once: 3 before 4, 4 before 7, 7 before 21, 21 before 16
+  -- two at once: 3 before 4, 4 before 7, 7 before 21; and 21 where a pixel is lighter that is not counted, as none is
   pub extent-first : darkBy 32 1 1 0 0 0 (nines 7) rising ≡ Refused 3
   pub size-next : darkAt 5 5 (nines 7) (1 ∷ 2 ∷ 3 ∷ 4 ∷ 5 ∷ 6 ∷ []) ≡ Refused 4
   pub length-next : darkAt 2 5 (nines 4) (1 ∷ 2 ∷ 3 ∷ []) ≡ Refused 7
