@@ -65,6 +65,16 @@ def declared(text):
     return names, fields, goals
 
 
+def of_library(text, crates):
+    """The names that a file imports from what is no crate of this repository."""
+    out = set()
+    for m in re.finditer(r"use ([\w.]+)\.\{([^}]*)\}", text):
+        path = m.group(1).split(".")
+        if path[0] != "Rattle" or path[1] not in crates:
+            out |= {t.strip().split(" as ")[0] for t in m.group(2).split(",")}
+    return out
+
+
 def code_of(line, comment):
     """A line's part before a comment, and the comment."""
     quoted = False
@@ -166,10 +176,11 @@ def main():
             print(n, names[n], "field" if n in fields else "")
         return
     changed = 0
+    crates = {os.path.basename(c) for c in glob.glob("crates/*")}
     work = [(f, "--", goals[f]) for f in antt] + [(f, "//", set()) for f in files("crates/*/src/**/*.rt")]
     for f, comment, kept in work:
         text = read(f)
-        new = turned(text, comment, names, fields, kept)
+        new = turned(text, comment, names, fields, kept | of_library(text, crates))
         if new != text:
             changed += 1
             with open(f, "w", encoding="utf-8") as out:
@@ -197,7 +208,9 @@ def main():
 RENAMED = {
     "allRead": "is_all_read",
     "answerTo": "answer_for",
+    "backOf": "reach_back",
     "extentOver": "is_extent_over",
+    "frontOf": "front_in",
     "noDrain": "has_no_drain",
     "noNeeds": "needs_of_none",
     "noState": "state_of_none",

@@ -4,7 +4,7 @@ use Rattle.std.specs.Prelude.{◌≡◌, true, List, [], ◌∷◌, ◌++◌, �
 use Rattle.std.proofs.Math.Option.{Option, none, some}
 use Rattle.morph.specs.declared.Kind.{Kind}
 use Rattle.morph.specs.declared.Kind.TheVariants.{Erosion, Dilation}
-use Rattle.morph.specs.Order.{order_of, back_of_of, ahead_of}
+use Rattle.morph.specs.Order.{order_of, reach_back, ahead_of}
 use Rattle.morph.specs.Grey.{grey}
 use Rattle.morph.specs.Lists.{tabulate, all}
 use Rattle.morph.specs.Line.{Entry, filter_line, queue, line_cost, line_costs}
@@ -13,13 +13,13 @@ use Rattle.morph.specs.Picture.{Picture, stage_of, pixels, apply_stage, apply_pl
 
 -- a line filtered, the positions that gave its values, the places of its window, its queue after step t, and the comparisons of step t
 abbrev pub filtered : Kind → ℕ → ℕ → List ℕ → List ℕ
-filtered kind left right xs = filter_line (order_of kind grey) (back_of_of kind left right) (ahead_of kind left right) xs
+filtered kind left right xs = filter_line (order_of kind grey) (reach_back kind left right) (ahead_of kind left right) xs
 
 abbrev pub line_positions : Kind → ℕ → ℕ → List ℕ → List ℕ
-line_positions kind left right xs = positions_line (order_of kind grey) (back_of_of kind left right) (ahead_of kind left right) xs
+line_positions kind left right xs = positions_line (order_of kind grey) (reach_back kind left right) (ahead_of kind left right) xs
 
 abbrev pub places : Kind → ℕ → ℕ → ℕ
-places kind left right = back_of_of kind left right + ahead_of kind left right + 1
+places kind left right = reach_back kind left right + ahead_of kind left right + 1
 
 abbrev pub queue_after : Kind → ℕ → ℕ → List ℕ → ℕ → List (Entry ℕ)
 queue_after kind left right xs t = queue (order_of kind grey) (places kind left right) xs (t + 1)

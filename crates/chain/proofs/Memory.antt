@@ -7,7 +7,7 @@ use borrow.Author.Rules.{part_to_end}
 use borrow.Table.Elements.{same_len}
 use lib.ListN.{length, take}
 use lib.Seq.{length-take-le, take_at, drop_at, drop-length}
-use Rattle.memory.specs.Memory.{Memory, memory, front_of_of, behind}
+use Rattle.memory.specs.Memory.{Memory, memory, front_in, behind}
 
 module _ {A : Type 0} where
   -- the front F before B
@@ -36,7 +36,7 @@ module _ {A : Type 0} where
     pub lengths_long : length M.lengths ≡ length N.lengths
 
   module _ (cells records : ℕ) (F B : Memory A) (h : Sized cells records F) where
-    pub append_front : front_of_of cells records (append F B) ≡ F
+    pub append_front : front_in cells records (append F B) ≡ F
     append_front =
         rw (
           take_at F.values B.values cells h.values_long,
@@ -55,7 +55,7 @@ module _ {A : Type 0} where
         )
 
   -- a front that comes back as long as it was lent leaves the memory as long
-  pub append_long : (cells records : ℕ) (M F : Memory A) → AsLong F (front_of_of cells records M) → AsLong (append F (behind cells records M)) M
+  pub append_long : (cells records : ℕ) (M F : Memory A) → AsLong F (front_in cells records M) → AsLong (append F (behind cells records M)) M
   append_long cells records M F h = record {
     values_long = same_len cells M.values F.values h.values_long;
     positions_long = same_len cells M.positions F.positions h.positions_long;
@@ -86,7 +86,7 @@ module _ {A : Type 0} (cells records : ℕ) (M : Memory A) where
       (put_mid records (length M.starts - records) M.starts R.starts) (put_mid records (length M.lengths - records) M.lengths R.lengths)
 
   module _ (R : Memory A) (h : AtLeast cells records M) where
-    pub back_append : rest_back R ≡ append (front_of_of cells records M) R
+    pub back_append : rest_back R ≡ append (front_in cells records M) R
     back_append =
         rw (
           put_end cells M.values R.values h.values_long,
@@ -95,7 +95,7 @@ module _ {A : Type 0} (cells records : ℕ) (M : Memory A) where
           put_end records M.lengths R.lengths h.lengths_long,
         )
 
-    front_sized : Sized cells records (front_of_of cells records M)
+    front_sized : Sized cells records (front_in cells records M)
     front_sized = record {
       values_long = length-take-le cells M.values h.values_long;
       positions_long = length-take-le cells M.positions h.positions_long;
@@ -103,8 +103,8 @@ module _ {A : Type 0} (cells records : ℕ) (M : Memory A) where
       lengths_long = length-take-le records M.lengths h.lengths_long;
     }
 
-    pub back_front : front_of_of cells records (rest_back R) ≡ front_of_of cells records M
-    back_front = ap (front_of_of cells records) back_append ∙ append_front cells records (front_of_of cells records M) R front_sized
+    pub back_front : front_in cells records (rest_back R) ≡ front_in cells records M
+    back_front = ap (front_in cells records) back_append ∙ append_front cells records (front_in cells records M) R front_sized
 
     pub back_behind : behind cells records (rest_back R) ≡ R
-    back_behind = ap (behind cells records) back_append ∙ append_behind cells records (front_of_of cells records M) R front_sized
+    back_behind = ap (behind cells records) back_append ∙ append_behind cells records (front_in cells records M) R front_sized

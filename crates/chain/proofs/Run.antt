@@ -16,7 +16,7 @@ use Rattle.morph.proofs.Lists.{split, both}
 use Rattle.morph.proofs.Picture.{stage_wide, stage_length, stage_each}
 use Rattle.sample.specs.Samples.{Samples}
 use Rattle.columns.specs.Inner.{Lent}
-use Rattle.memory.specs.Memory.{Memory, front_of_of, behind, sound_records, all_sound, Whole, StageHolds, Holds}
+use Rattle.memory.specs.Memory.{Memory, front_in, behind, sound_records, all_sound, Whole, StageHolds, Holds}
 use Rattle.memory.proofs.Records.{test_sound, sound_test}
 use Rattle.plan_record.specs.declared.Stage.{Stage}
 use Rattle.plan_record.specs.declared.Plan.{Plan}
@@ -85,7 +85,7 @@ module _ {A : Type 0} (K : Samples A) (s : Stage) (H t : ℕ) (M : Memory A) (ro
   abbrev joined : Memory A → Memory A
   joined F = append F (behind (cells_of W s) W M)
 
-  module _ (F : Memory A) (row' : List A) (c : ℕ) (g : StageStep K s H t (front_of_of (cells_of W s) W M) row F row' c) where
+  module _ (F : Memory A) (row' : List A) (c : ℕ) (g : StageStep K s H t (front_in (cells_of W s) W M) row F row' c) where
     front_sized : Sized (cells_of W s) W F
     front_sized = record {
       values_long = g.moved.values_long ∙ rw length-take (omega (arith, h.values_long));
@@ -116,7 +116,7 @@ module _ {A : Type 0} (K : Samples A) (s : Stage) (H t : ℕ) (M : Memory A) (ro
     front_lent =
         (rw e (begins_lent s W M h), parts_long cells M.values M.positions (omega (arith, h.values_long)) (omega (arith, h.positions_long)))
 
-    pub front_back : (F : Memory A) (row' : List A) (c : ℕ) → StageStep K s H t (front_of_of cells W M) row F row' c
+    pub front_back : (F : Memory A) (row' : List A) (c : ℕ) → StageStep K s H t (front_in cells W M) row F row' c
         → Fronted K s H t M row (append F (behind cells W M)) row' c
         × Leaves W cells c (length (append F (behind cells W M)).values) (length (append F (behind cells W M)).positions) (length (append F (behind cells W M)).starts) (length (append F (behind cells W M)).lengths)
     front_back F row' c g = let k = rw e at g in (rw e (front_joined F row' c k), rw e (front_leaves F row' c k))
@@ -185,7 +185,7 @@ module _ {A : Type 0} (K : Samples A) where
 
       -- they go on, on what came of the stage
       pub plan_later : below_of s ≤ t → (R : Memory A) (row'' : List A) (d : ℕ) (due : Bool) → PlanStep K ss H (t - below_of s) (behind (cells_of (length row) s) (length row) M') row' R row'' d due
-          → (M'' : Memory A) → front_of_of (cells_of (length row) s) (length row) M'' ≡ front_of_of (cells_of (length row) s) (length row) M' → behind (cells_of (length row) s) (length row) M'' ≡ R
+          → (M'' : Memory A) → front_in (cells_of (length row) s) (length row) M'' ≡ front_in (cells_of (length row) s) (length row) M' → behind (cells_of (length row) s) (length row) M'' ≡ R
           → PlanStep K (s ∷ ss) H t M row M'' row'' (c + d) due
       unfolding Holds plan_cost apply_plan
       plan_later l R row'' d due g M'' i j =

@@ -9,7 +9,7 @@ use Rattle.plan_record.specs.declared.Stage.{Stage}
 use Rattle.plan_record.specs.declared.Plan.{Plan}
 use Rattle.plan_record.specs.Inner.{Small}
 use Rattle.plan_record.specs.Plan.{used, filter_of, total, size_of, below_of, cells_of}
-use Rattle.memory.specs.Memory.{Memory, front_of_of, behind, sound_records, all_sound, Whole, Holds}
+use Rattle.memory.specs.Memory.{Memory, front_in, behind, sound_records, all_sound, Whole, Holds}
 use Rattle.stage.specs.Inner.{StageStep}
 
 -- the stages of a plan from stage i on
@@ -50,7 +50,7 @@ pub record Leaves (W cells comparisons values positions starts lengths : ℕ) : 
 module _ {A : Type 0} (K : Samples A) where
   -- a stage's own step on the front of the memory; what is behind stays
   pub record Fronted (s : Stage) (H t : ℕ) (M : Memory A) (row : List A) (M' : Memory A) (row' : List A) (comparisons : ℕ) : Type 0 where
-    pub stepped : StageStep K s H t (front_of_of (cells_of (length row) s) (length row) M) row (front_of_of (cells_of (length row) s) (length row) M') row' comparisons
+    pub stepped : StageStep K s H t (front_in (cells_of (length row) s) (length row) M) row (front_in (cells_of (length row) s) (length row) M') row' comparisons
     pub rest : behind (cells_of (length row) s) (length row) M' ≡ behind (cells_of (length row) s) (length row) M
 
   -- Step t of the plan of these stages. The memory stays such as a step takes. For every picture whose first t steps could have left this memory, and whose row t is

@@ -8,7 +8,7 @@ use borrow.Author.Tests.{eqb-true, eqb-false, not-false}
 use lib.Dec.{eqb}
 use lib.ListN.{length, get_or}
 use Rattle.morph.specs.declared.Kind.{Kind}
-use Rattle.morph.specs.Order.{Order, order_of, back_of_of, ahead_of, kind_of}
+use Rattle.morph.specs.Order.{Order, order_of, reach_back, ahead_of, kind_of}
 use Rattle.morph.specs.Grey.{grey}
 use Rattle.morph.specs.Origin.{LatestEntry}
 use Rattle.morph.specs.Lists.{Each}
@@ -52,9 +52,9 @@ all_good [] = tt
 all_good (a ∷ row) = (refl, all_good row)
 
 -- what is made of the copy, F, in the words of the promise: the row filtered, or its positions
-pub filtered : (F : Order ℕ → ℕ → ℕ → List ℕ → List ℕ) (kind left right : ℕ) (k : Kind) (back ahead : ℕ) (input copied : List ℕ) {output : List ℕ} → k ≡ kind_of kind → back ≡ back_of_of k left right
+pub filtered : (F : Order ℕ → ℕ → ℕ → List ℕ → List ℕ) (kind left right : ℕ) (k : Kind) (back ahead : ℕ) (input copied : List ℕ) {output : List ℕ} → k ≡ kind_of kind → back ≡ reach_back k left right
     → ahead ≡ ahead_of k left right → copied ≡ input → (Each (λ a. greys.good a ≡ true) copied → output ≡ F (order_of k grey) back ahead copied)
-    → output ≡ F (order_of (kind_of kind) grey) (back_of_of (kind_of kind) left right) (ahead_of (kind_of kind) left right) input
+    → output ≡ F (order_of (kind_of kind) grey) (reach_back (kind_of kind) left right) (ahead_of (kind_of kind) left right) input
 filtered F kind left right k back ahead input copied e b a c h = rw (b, a, c, e) at (h (all_good copied))
 
 -- "the answer, the state and all lent cells afterwards follow from its inputs alone, also on a refusal"
@@ -109,7 +109,7 @@ module _ (kind left right : ℕ) (input output positions : List ℕ) where
 
   -- each position told is "the position that gave the value, the latest one in the window where several are equal"
   pub filter_positions_latest : (output' positions' : List ℕ) (r x : ℕ) → FiltersRowPositions kind left right input output positions output' positions' r → r ≡ 0 → x < length input
-      → LatestEntry (order_of (kind_of kind) grey) (back_of_of (kind_of kind) left right) (ahead_of (kind_of kind) left right) input x (record { value = get_or output' x 0; position = get_or positions' x 0 })
+      → LatestEntry (order_of (kind_of kind) grey) (reach_back (kind_of kind) left right) (ahead_of (kind_of kind) left right) input x (record { value = get_or output' x 0; position = get_or positions' x 0 })
   filter_positions_latest output' positions' r x h z l =
       let a : number ≡ 0 = sym h.told ∙ z in
-      rw (h.filters a, h.locates a) (positions_latest greys (kind_of kind) (back_of_of (kind_of kind) left right) (ahead_of (kind_of kind) left right) input x l)
+      rw (h.filters a, h.locates a) (positions_latest greys (kind_of kind) (reach_back (kind_of kind) left right) (ahead_of (kind_of kind) left right) input x l)

@@ -1,6 +1,6 @@
 -- What the firmware's one-row filters answer, and what they leave in the output rows.
 use Rattle.std.specs.Prelude.{◌≡◌, ◌≢◌, not, List, [], ◌∷◌, ℕ, eqb, length}
-use Rattle.morph.specs.Order.{order_of, back_of_of, ahead_of, kind_of}
+use Rattle.morph.specs.Order.{order_of, reach_back, ahead_of, kind_of}
 use Rattle.morph.specs.Grey.{grey}
 use Rattle.morph.specs.Line.{filter_line}
 use Rattle.morph.specs.Origin.{positions_line}
@@ -18,7 +18,7 @@ pub record FiltersRow (kind left right : ℕ) (input output output' : List ℕ) 
   pub refuses : filter_row_number kind left right (length input) (length output) ≢ 0 → output' ≡ output
   pub filters :
       filter_row_number kind left right (length input) (length output) ≡ 0
-      → output' ≡ filter_line (order_of (kind_of kind) grey) (back_of_of (kind_of kind) left right) (ahead_of (kind_of kind) left right) input
+      → output' ≡ filter_line (order_of (kind_of kind) grey) (reach_back (kind_of kind) left right) (ahead_of (kind_of kind) left right) input
 
 -- ---- with positions
 
@@ -32,7 +32,7 @@ pub record FiltersRowPositions (kind left right : ℕ) (input output positions o
   pub refuses : filter_positions_number kind left right (length input) (length output) (length positions) ≢ 0 → (output' ≡ output) × (positions' ≡ positions)
   pub filters :
       filter_positions_number kind left right (length input) (length output) (length positions) ≡ 0
-      → output' ≡ filter_line (order_of (kind_of kind) grey) (back_of_of (kind_of kind) left right) (ahead_of (kind_of kind) left right) input
+      → output' ≡ filter_line (order_of (kind_of kind) grey) (reach_back (kind_of kind) left right) (ahead_of (kind_of kind) left right) input
   pub locates :
       filter_positions_number kind left right (length input) (length output) (length positions) ≡ 0
-      → positions' ≡ positions_line (order_of (kind_of kind) grey) (back_of_of (kind_of kind) left right) (ahead_of (kind_of kind) left right) input
+      → positions' ≡ positions_line (order_of (kind_of kind) grey) (reach_back (kind_of kind) left right) (ahead_of (kind_of kind) left right) input

@@ -1,7 +1,7 @@
 -- Whole runs of a line: the calls from its start on, and what they say together.
 use Rattle.std.specs.Prelude.{◌≡◌, ◌≢◌, List, [], ◌∷◌, ◌++◌, map, ℕ, ◌+◌, ◌-◌, ◌*◌, ◌≤◌, ◌<◌, length, take, get_or}
 use Rattle.std.proofs.Math.Option.{Option, none, some}
-use Rattle.morph.specs.Order.{Order, order_of, back_of_of, ahead_of, kind_of}
+use Rattle.morph.specs.Order.{Order, order_of, reach_back, ahead_of, kind_of}
 use Rattle.morph.specs.Lists.{tabulate, In}
 use Rattle.morph.specs.Line.{Entry, output_at, best_at, filter_line, queue, line_cost, line_costs}
 use Rattle.morph.specs.Origin.{answer_at, LatestEntry, positions_line}
@@ -54,7 +54,7 @@ module _ {A : Type 0} (K : Samples A) (kind left right : ℕ) (raw : List A) whe
   order = order_of (kind_of kind) K.order
 
   abbrev pub back : ℕ
-  back = back_of_of (kind_of kind) left right
+  back = reach_back (kind_of kind) left right
 
   abbrev pub ahead : ℕ
   ahead = ahead_of (kind_of kind) left right

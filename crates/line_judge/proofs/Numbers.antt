@@ -8,14 +8,14 @@ use borrow.Author.Tests.{ltb-false, leb-false, le-ltb, lt-leb}
 use lib.Dec.{ltb, leb}
 use Rattle.morph.specs.declared.Kind.{Kind}
 use Rattle.morph.specs.declared.Kind.TheVariants.{Erosion, Dilation}
-use Rattle.morph.specs.Order.{kind_of, back_of_of, ahead_of}
+use Rattle.morph.specs.Order.{kind_of, reach_back, ahead_of}
 use Rattle.morph.specs.Numbers.{outside, is_extent_over}
 use Rattle.morph.proofs.Lists.{split, neither}
 use Rattle.morph.proofs.Numbers.{inside, not_outside, extents_fit, none_over}
 use Rattle.line_judge.specs.Numbers.{window_of, broken, line_start_number, line_read_number, line_drain_number, line_read_out_number}
 use Rattle.line_judge.specs.Inner.{LineSound}
 
-pub back_fits : (kind : Kind) (left right : ℕ) → left ≤ 31 → right ≤ 31 → back_of_of kind left right ≤ 31
+pub back_fits : (kind : Kind) (left right : ℕ) → left ≤ 31 → right ≤ 31 → reach_back kind left right ≤ 31
 back_fits Erosion left right h k = h
 back_fits Dilation left right h k = k
 

@@ -3,7 +3,7 @@
 -- A line one step on.
 use Rattle.std.specs.Prelude.{List, ℕ, ◌+◌, ◌≤◌, ◌<◌}
 use Rattle.morph.specs.declared.Kind.{Kind}
-use Rattle.morph.specs.Order.{back_of_of, ahead_of}
+use Rattle.morph.specs.Order.{reach_back, ahead_of}
 use Rattle.sample.specs.Samples.{Samples}
 use Rattle.line_judge.specs.Numbers.{window_of}
 use Rattle.line_judge.specs.Steps.{State}
@@ -12,7 +12,7 @@ use Rattle.line_judge.specs.Steps.{State}
 pub record LineSound (kind : Kind) (left right pixels step start count : ℕ) : Type 0 where
   pub left_fits : left ≤ 31
   pub right_fits : right ≤ 31
-  pub back_fits : back_of_of kind left right ≤ 31
+  pub back_fits : reach_back kind left right ≤ 31
   pub ahead_fits : ahead_of kind left right ≤ 31
   pub some : 0 < pixels
   pub pixels_fit : pixels ≤ 65535

@@ -1,12 +1,12 @@
 -- Which of document 01's numbers a call of a line is refused with, test by test in its order; 0 where the call is accepted. On plain numbers, for both kinds of samples.
 use Rattle.std.specs.Prelude.{Bool, cond, not, ◌||◌, [], ◌∷◌, ℕ, ◌+◌, ltb, leb, eqb}
 use Rattle.morph.specs.declared.Kind.{Kind}
-use Rattle.morph.specs.Order.{back_of_of, ahead_of}
+use Rattle.morph.specs.Order.{reach_back, ahead_of}
 use Rattle.morph.specs.Numbers.{given, first_of, outside, kind_number_of, is_extent_over, extent_number}
 
 -- "L = B + F + 1"
 abbrev pub window_of : Kind → ℕ → ℕ → ℕ
-window_of kind left right = back_of_of kind left right + ahead_of kind left right + 1
+window_of kind left right = reach_back kind left right + ahead_of kind left right + 1
 
 -- "The line's start: 2, 3, 4". "4 | .. a line's N is 0 or over 65,535"
 unfoldable pub line_start_number : ℕ → ℕ → ℕ → ℕ → ℕ

@@ -1,7 +1,7 @@
 -- A line step by step: what each call says and leaves, over a kind of samples K. Grey bytes and floats have the same promises.
 use Rattle.std.specs.Prelude.{◌≡◌, ◌≢◌, Bool, true, false, cond, List, ℕ, ◌+◌, ◌-◌, leb, eqb, length, get_or, replicate}
 use Rattle.morph.specs.declared.Kind.{Kind}
-use Rattle.morph.specs.Order.{Order, order_of, back_of_of, ahead_of, kind_of}
+use Rattle.morph.specs.Order.{Order, order_of, reach_back, ahead_of, kind_of}
 use Rattle.morph.specs.Lists.{Each}
 use Rattle.morph.specs.Line.{Entry, queue, line_cost, Shown, found, refused as notShown}
 use Rattle.morph.specs.Origin.{answer_at}
@@ -81,7 +81,7 @@ module _ {A : Type 0} (K : Samples A) (s : State A) where
   O = order_of s.kind K.order
 
   abbrev pub B : ℕ
-  B = back_of_of s.kind s.left s.right
+  B = reach_back s.kind s.left s.right
 
   abbrev pub F : ℕ
   F = ahead_of s.kind s.left s.right

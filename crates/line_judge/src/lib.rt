@@ -1,7 +1,7 @@
 // Which calls of a line are refused, on plain numbers: grey bytes and floats share it.
 
 ghost use Rattle.std.specs.Prelude.{◌≡◌, [], ◌∷◌, ◌<◌};
-ghost use Rattle.morph.specs.Order.{back_of_of, ahead_of, kind_of};
+ghost use Rattle.morph.specs.Order.{reach_back, ahead_of, kind_of};
 ghost use Rattle.morph.specs.Numbers.{is_extent_over, outside};
 ghost use Rattle.line_judge.specs.Numbers.{window_of, line_start_number, broken, line_read_number, line_drain_number, line_read_out_number, place_of};
 
@@ -22,7 +22,7 @@ pub fn kind_of(kind: u8) -> Kind
 
 // How far the window reaches back.
 pub fn back(kind: Kind, left: u8, right: u8) -> usize
-    ensures { (result ≡ back_of_of kind left right) × (result < 256) }
+    ensures { (result ≡ reach_back kind left right) × (result < 256) }
 {
     match kind {
         Kind::Erosion => morph::wide(left),

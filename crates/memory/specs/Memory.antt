@@ -30,8 +30,8 @@ memory v p s l = record { values = v; positions = p; starts = s; lengths = l }
 
 module _ {A : Type 0} where
   -- the front of the memory that is a stage's own, of that many cells and records ..
-  abbrev pub front_of_of : ℕ → ℕ → Memory A → Memory A
-  front_of_of cells W M = memory (take cells M.values) (take cells M.positions) (take W M.starts) (take W M.lengths)
+  abbrev pub front_in : ℕ → ℕ → Memory A → Memory A
+  front_in cells W M = memory (take cells M.values) (take cells M.positions) (take W M.starts) (take W M.lengths)
 
   -- .. and the memory behind it, which is that of the stages after it
   abbrev pub behind : ℕ → ℕ → Memory A → Memory A
@@ -59,7 +59,7 @@ module _ {A : Type 0} (K : Samples A) where
   unfoldable pub kept_at : List Stage → ℕ → Memory A → ℕ → ℕ → List (Entry A)
   kept_at [] W M i x = []
   kept_at (s ∷ ss) W M zero x =
-      column_at (size_of s) (front_of_of (cells_of W s) W M).values (front_of_of (cells_of W s) W M).positions (front_of_of (cells_of W s) W M).starts (front_of_of (cells_of W s) W M).lengths x
+      column_at (size_of s) (front_in (cells_of W s) W M).values (front_in (cells_of W s) W M).positions (front_in (cells_of W s) W M).starts (front_in (cells_of W s) W M).lengths x
   kept_at (s ∷ ss) W M (suc i) x = kept_at ss W (behind (cells_of W s) W M) i x
 
   -- that queue as it is read after t steps of the plan over H rows: a position is a row's number
@@ -97,4 +97,4 @@ module _ {A : Type 0} (K : Samples A) where
   -- After t steps of a plan over p each column of each stage holds its queue; a stage's own steps are those after the look-ahead of the stages before it.
   unfoldable pub Holds : List Stage → ℕ → Picture A → ℕ → Memory A → Type 0
   Holds [] W p t M = Unit {0}
-  Holds (s ∷ ss) W p t M = StageHolds s W p t (front_of_of (cells_of W s) W M) × Holds ss W (apply_stage (filter_of K.order s) p) (t - below_of s) (behind (cells_of W s) W M)
+  Holds (s ∷ ss) W p t M = StageHolds s W p t (front_in (cells_of W s) W M) × Holds ss W (apply_stage (filter_of K.order s) p) (t - below_of s) (behind (cells_of W s) W M)

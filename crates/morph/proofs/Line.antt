@@ -8,7 +8,7 @@ use Prim.Native.Nat.{ℕ, zero, suc, ◌+◌, ◌-◌, ◌*◌, ◌≤◌, ◌<�
 use native.Mathlib.Nat.{not-suc-le-zero, le_of_lt, zero-sub, add-zero, add-suc, suc-add}
 use native.Mathlib.Numerals.{add-one}
 use native.Mathlib.Omega.{arith}
-use borrow.Author.Tests.{ltb-true, ltb-false, lt-ltb, le-ltb, leb-true, le-leb, not_true}
+use borrow.Author.Tests.{ltb-true, ltb-false, lt-ltb, le-ltb, leb-true, le-leb, not-true}
 use lib.Dec.{leb, ltb}
 use lib.ListN.{length, take, drop, get_or, length-append, length-take, length-drop}
 use lib.Seq.{slice, drop-nil, drop-drop, take-suc, drop-append-le, take_all, get_or-drop, get_or-take}
@@ -95,7 +95,7 @@ module _ {A : Type 0} (O : Order A) where
 
   over_all : (e : Entry A) (k : ℕ) (l : List A) → all (over O e) (positioned k l) ≡ true → (j : ℕ) → j < length l → O.le e.value (get_or l j O.blank) ≡ false
   over_all e k [] h j m = absurd (not-suc-le-zero m)
-  over_all e k (a ∷ l) h zero m = not_true _ (both _ (all (over O e) (positioned (suc k) l)) h).0
+  over_all e k (a ∷ l) h zero m = not-true _ (both _ (all (over O e) (positioned (suc k) l)) h).0
   over_all e k (a ∷ l) h (suc j) m = over_all e (suc k) l (both (over O e (record { value = a; position = k })) _ h).1 j (omega arith)
 
   all_over : (e : Entry A) (k : ℕ) (l : List A) → ((j : ℕ) → j < length l → O.le e.value (get_or l j O.blank) ≡ false) → all (over O e) (positioned k l) ≡ true
@@ -205,7 +205,7 @@ module _ {A : Type 0} (O : Order A) where
   -- ---- what a new value passes is the tail of the queue
 
   under_passed : (a : A) (e r : Entry A) → over O e r ≡ true → O.le e.value a ≡ true → O.le r.value a ≡ true
-  under_passed a e r h p = O.trans r.value e.value a (O.total e.value r.value (not_true _ h)) p
+  under_passed a e r h p = O.trans r.value e.value a (O.total e.value r.value (not-true _ h)) p
 
   pub none_unpassed : (a : A) (e : Entry A) (q : List (Entry A)) → O.le e.value a ≡ true → all (over O e) q ≡ true → unpassed O a q ≡ []
   none_unpassed a e [] p h = refl

@@ -35,9 +35,9 @@ kind_of (suc n) = Dilation
 
 -- How far a window reaches back and ahead, of the extents a (left or up) and b (right or down).
 -- "For erosion across B = a, F = b; for dilation across B = b, F = a; down likewise with c and d."
-abbrev pub back_of_of : Kind → ℕ → ℕ → ℕ
-back_of_of Erosion a b = a
-back_of_of Dilation a b = b
+abbrev pub reach_back : Kind → ℕ → ℕ → ℕ
+reach_back Erosion a b = a
+reach_back Dilation a b = b
 
 abbrev pub ahead_of : Kind → ℕ → ℕ → ℕ
 ahead_of Erosion a b = b

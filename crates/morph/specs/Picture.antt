@@ -5,7 +5,7 @@ use Rattle.std.proofs.Math.Option.{Option}
 use Rattle.std.proofs.Math.Seq.{slice}
 use Rattle.morph.specs.declared.Kind.{Kind}
 use Rattle.morph.specs.declared.Kind.TheVariants.{Erosion, Dilation}
-use Rattle.morph.specs.Order.{Order, order_of, back_of_of, ahead_of}
+use Rattle.morph.specs.Order.{Order, order_of, reach_back, ahead_of}
 use Rattle.morph.specs.Lists.{tabulate, Each}
 use Rattle.morph.specs.Line.{best, best_at, filter_line, output_at}
 
@@ -34,7 +34,7 @@ pub record Stage (A : Type 0) : Type 0 where
 -- "A rectangle has four extents ..: left a, right b, up c, down d." For dilation "the rectangle is reflected, as the pair needs."
 abbrev pub stage_of : {A : Type 0} → Order A → Kind → ℕ → ℕ → ℕ → ℕ → Stage A
 stage_of O kind a b c d =
-    record { order = order_of kind O; back = back_of_of kind a b; ahead = ahead_of kind a b; above = back_of_of kind c d; below = ahead_of kind c d }
+    record { order = order_of kind O; back = reach_back kind a b; ahead = ahead_of kind a b; above = reach_back kind c d; below = ahead_of kind c d }
 
 abbrev pub erosion : {A : Type 0} → Order A → ℕ → ℕ → ℕ → ℕ → Stage A
 erosion O a b c d = stage_of O Erosion a b c d

@@ -8,7 +8,7 @@ use native.Mathlib.Omega.{arith}
 use borrow.Rule.Slice.PartMut.{mid_of, put_mid, same_len_mid}
 use lib.ListN.{length, drop, length-drop}
 use lib.Seq.{length-take-le, drop-drop}
-use Rattle.morph.specs.Order.{order_of, back_of_of, ahead_of}
+use Rattle.morph.specs.Order.{order_of, reach_back, ahead_of}
 use Rattle.morph.specs.Lists.{Each}
 use Rattle.morph.specs.Inner.{cells_roomed}
 use Rattle.morph.specs.Origin.{positions_line}
@@ -32,7 +32,7 @@ module _ {A : Type 0} (K : Samples A) (s : Stage) (t : ℕ) (M : Memory A) (colu
   -- Row t's part of the ring, lo its first and k its length as the code has them, is lent to the row that goes across, and comes back as ys.
   pub origins_taken : (M' : Memory A) (row' : List A) (ys : List ℕ) (lo k across down : ℕ) → Lent (size_of s) (length row) M.positions M.starts M.lengths → length columns ≡ length M.positions
       → lo ≡ t % size_of s * length row → k ≡ length row
-      → AcrossOrigins K s.kind (back_of_of s.kind s.left s.right) (ahead_of s.kind s.left s.right) row (mid_of lo k columns) row' ys across
+      → AcrossOrigins K s.kind (reach_back s.kind s.left s.right) (ahead_of s.kind s.left s.right) row (mid_of lo k columns) row' ys across
       → RowRead K s.kind (size_of s) t row' M.values M.positions M.starts M.lengths M'.values M'.positions M'.starts M'.lengths down
       → OriginsTaken K s t M columns row M' (put_mid lo k columns ys) row' (across + down)
   origins_taken M' row' ys lo k across down lent e at all f read =

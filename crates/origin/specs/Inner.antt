@@ -1,7 +1,7 @@
 -- Inner: only contracts of inner functions, and proofs, cite what stands here; no promise of a public call is made of it.
 -- What the code of a stage that tells origins does: the stage's own step, the columns of its row kept, and the fronts with their origins.
 use Rattle.std.specs.Prelude.{◌≡◌, ◌≢◌, true, cond, List, [], ℕ, ◌+◌, ◌-◌, ◌*◌, ◌%◌, ◌≤◌, ◌<◌, min, leb, length, get_or}
-use Rattle.morph.specs.Order.{order_of, back_of_of, ahead_of}
+use Rattle.morph.specs.Order.{order_of, reach_back, ahead_of}
 use Rattle.morph.specs.Lists.{Each, tabulate}
 use Rattle.morph.specs.Cell.{age_of}
 use Rattle.morph.specs.Picture.{Picture}
@@ -47,10 +47,10 @@ module _ {A : Type 0} (K : Samples A) where
     pub beside : (j : ℕ) → j ≢ t % size_of s → cells_at (length row) j columns' ≡ cells_at (length row) j columns
     pub here :
         Each (λ a. K.good a ≡ true) row
-        → cells_at (length row) (t % size_of s) columns' ≡ positions_line (order_of s.kind K.order) (back_of_of s.kind s.left s.right) (ahead_of s.kind s.left s.right) row
+        → cells_at (length row) (t % size_of s) columns' ≡ positions_line (order_of s.kind K.order) (reach_back s.kind s.left s.right) (ahead_of s.kind s.left s.right) row
     pub put :
         Each (λ a. K.good a ≡ true) row
-        → columns' ≡ columns_put (length row) (t % size_of s) (positions_line (order_of s.kind K.order) (back_of_of s.kind s.left s.right) (ahead_of s.kind s.left s.right) row) columns
+        → columns' ≡ columns_put (length row) (t % size_of s) (positions_line (order_of s.kind K.order) (reach_back s.kind s.left s.right) (ahead_of s.kind s.left s.right) row) columns
 
   -- The stage's own step t: its queues go on, and so do the columns that are kept.
   pub record OriginsMoved (s : Stage) (H t : ℕ) (M : Memory A) (columns : List ℕ) (row : List A) (M' : Memory A) (columns' : List ℕ) (row' : List A) (comparisons : ℕ) : Type 0 where
@@ -58,7 +58,7 @@ module _ {A : Type 0} (K : Samples A) where
     pub columns_long : length columns' ≡ length columns
     pub put :
         t < H → Each (λ a. K.good a ≡ true) row
-        → columns' ≡ columns_put (length row) (t % size_of s) (positions_line (order_of s.kind K.order) (back_of_of s.kind s.left s.right) (ahead_of s.kind s.left s.right) row) columns
+        → columns' ≡ columns_put (length row) (t % size_of s) (positions_line (order_of s.kind K.order) (reach_back s.kind s.left s.right) (ahead_of s.kind s.left s.right) row) columns
     pub stay : H ≤ t → columns' ≡ columns
     pub keeps :
         (p : Picture A) → Whole K (length row) H p → (t < H → row ≡ get_or p t []) → ColumnsKept (filter_of K.order s) (size_of s) (length row) p t columns

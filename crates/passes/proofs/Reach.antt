@@ -204,8 +204,8 @@ module _ {A : Type 0} (O : Order A) (P : A → Type 0) (pick : A → A → A) (c
             go zero w = absurd (omega (arith, mul-zero s))
             go (suc u) w = omega arith
 
-    pub reach_back : Reached O u (r + s) hi xs zs
-    reach_back = record {
+    pub reach_back_law : Reached O u (r + s) hi xs zs
+    reach_back_law = record {
       long = b.long ∙ a.long;
       has = λ i l. ⊎_elim (λ (w : s * u ≤ i). behind i l w) (λ (w : suc i ≤ s * u). along (suc i) i (omega arith) l w) (below_or (s * u) i);
     }
@@ -234,4 +234,4 @@ module _ {A : Type 0} (O : Order A) (P : A → Type 0) (pick : A → A → A) (c
 -- a step back of a loop that has reached r back by now
 pub then_back : {A : Type 0} (O : Order A) (P : A → Type 0) (pick : A → A → A) (c : Picks O P pick) (u r s hi far : ℕ) (xs ys zs : List A) → s ≡ min (hi + r + 1) (far - r)
     → ThenBack O P u r hi xs ys → Back O.blank pick u s ys zs → ThenBack O P u (r + s) hi xs zs
-then_back O P pick c u r s hi far xs ys zs h a b ws all w = reach_back O P pick c u ws all r s hi ys zs (omega arith) (a ws all w) b
+then_back O P pick c u r s hi far xs ys zs h a b ws all w = reach_back_law O P pick c u ws all r s hi ys zs (omega arith) (a ws all w) b

@@ -12,7 +12,7 @@ use Rattle.morph.specs.Picture.{Picture}
 use Rattle.sample.specs.Samples.{Samples}
 use Rattle.plan_record.specs.declared.Stage.{Stage}
 use Rattle.plan_record.specs.Plan.{used, size_of, below_of, cells_needed, plan_ahead}
-use Rattle.memory.specs.Memory.{Memory, front_of_of, Whole, StageHolds, Holds}
+use Rattle.memory.specs.Memory.{Memory, front_in, Whole, StageHolds, Holds}
 use Rattle.stage.specs.Inner.{StageStep}
 use Rattle.stage.proofs.Stage.{early_step, due_step}
 use Rattle.chain.specs.Inner.{Fronted}
@@ -36,7 +36,7 @@ module _ {A : Type 0} (K : Samples A) (S : State) (M : OriginMemory A) (pixels :
 
   -- the stage's part of the memory
   abbrev part : OriginMemory A → Memory A
-  part N = front_of_of (only_cells S) S.width N.cells
+  part N = front_in (only_cells S) S.width N.cells
 
   fronted : (row'' : List A) → StageStep K s (height_of S) S.step (part M) pixels (part M') row'' c → Fronted K s (height_of S) S.step M.cells pixels M'.cells row'' c
   fronted row'' g = record { stepped = rw wide g; rest = rw wide f.rest }

@@ -10,7 +10,7 @@ use Rattle.sample.specs.Samples.{Samples}
 use Rattle.plan_record.specs.declared.Stage.{Stage}
 use Rattle.plan_record.specs.Inner.{Small}
 use Rattle.plan_record.specs.Plan.{used, size_of, below_of, cells_of, cells_needed, plan_ahead}
-use Rattle.memory.specs.Memory.{Memory, front_of_of, behind, all_sound}
+use Rattle.memory.specs.Memory.{Memory, front_in, behind, all_sound}
 use Rattle.columns.specs.Inner.{Lent}
 use Rattle.chain.specs.Inner.{Begins}
 use Rattle.chain.proofs.Memory.{Sized, AtLeast, append, append_front, append_behind}
@@ -69,7 +69,7 @@ module _ {A : Type 0} (K : Samples A) (S : State) (M : OriginMemory A) (h : Asks
 
     -- the part comes back as F and columns'
     back : (F : Memory A) (columns' : List ℕ) (row' : List A) (r : ℕ)
-        → OriginsMoved K (only_stage S) (height_of S) S.step (front_of_of (only_cells S) S.width M.cells) (take (only_cells S) M.columns) row F columns' row' r
+        → OriginsMoved K (only_stage S) (height_of S) S.step (front_in (only_cells S) S.width M.cells) (take (only_cells S) M.columns) row F columns' row' r
         → OriginsFronted K S M row (record { cells = append F (behind (only_cells S) S.width M.cells); columns = columns' ++ drop (only_cells S) M.columns }) row' r
     back F columns' row' r m =
         let b = begins in
@@ -110,7 +110,7 @@ module _ {A : Type 0} (K : Samples A) (S : State) (M : OriginMemory A) (h : Asks
           rw (c, e, d) (only_small, h.fit.run.low, l, v, k, omega arith)
 
       pub part_back : (rows : ℕ) → rows ≡ height_of S → (F : Memory A) (columns' : List ℕ) (row' : List A) (r : ℕ)
-          → OriginsMoved K stage rows S.step (front_of_of cells S.width M.cells) (take cells M.columns) row F columns' row' r
+          → OriginsMoved K stage rows S.step (front_in cells S.width M.cells) (take cells M.columns) row F columns' row' r
           → OriginsFronted K S M row (record { cells = append F (behind cells S.width M.cells); columns = columns' ++ drop cells M.columns }) row' r
       part_back rows d F columns' row' r m = rw (c, e) (back row wide F columns' row' r (rw (c, e, d) at m))
 

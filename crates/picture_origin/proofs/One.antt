@@ -14,7 +14,7 @@ use Rattle.sample.specs.Samples.{Samples}
 use Rattle.plan_record.specs.declared.Stage.{Stage}
 use Rattle.plan_record.specs.declared.Plan.{Plan}
 use Rattle.plan_record.specs.Plan.{unused, used, filter_of, total, size_of, below_of, cells_of, cells_needed, records_needed, plan_ahead}
-use Rattle.memory.specs.Memory.{Memory, front_of_of, behind, sound_records, all_sound, Whole, StageHolds, Holds}
+use Rattle.memory.specs.Memory.{Memory, front_in, behind, sound_records, all_sound, Whole, StageHolds, Holds}
 use Rattle.memory.proofs.Records.{sound_test}
 use Rattle.chain.specs.Inner.{Fronted}
 use Rattle.chain.proofs.Run.{after_none, after_more}
@@ -73,7 +73,7 @@ module _ {A : Type 0} (K : Samples A) (S : State) (s : Stage) (one : used S.plan
           let h = rw e at holds in
           let F = filter_of K.order s in
           let w : Whole K (length pixels) (height_of S) p = rw wide whole in
-          let k : StageHolds K s (length pixels) p S.step (front_of_of (cells_of (length pixels) s) (length pixels) M) = rw wide h.0 in
+          let k : StageHolds K s (length pixels) p S.step (front_in (cells_of (length pixels) s) (length pixels) M) = rw wide h.0 in
           let (a, b) = f.stepped.moved.told p w k given in
           let o = f.stepped.comes p w k given in
           let z = none_more (leb (below_of s) S.step) in

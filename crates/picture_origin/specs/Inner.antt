@@ -3,7 +3,7 @@ use Rattle.std.specs.Prelude.{◌≡◌, cond, ◌&&◌, List, [], ◌∷◌, �
 use Rattle.sample.specs.Samples.{Samples}
 use Rattle.plan_record.specs.Inner.{Small}
 use Rattle.plan_record.specs.Plan.{used, size_of, cells_of}
-use Rattle.memory.specs.Memory.{front_of_of, behind}
+use Rattle.memory.specs.Memory.{front_in, behind}
 use Rattle.origin.specs.Inner.{FrontsTold, OriginsMoved}
 use Rattle.picture_state.specs.declared.State.{State}
 use Rattle.picture_state.specs.Numbers.{height_of}
@@ -36,8 +36,8 @@ module _ {A : Type 0} (K : Samples A) where
   pub record OriginsFronted (S : State) (M : OriginMemory A) (row : List A) (M' : OriginMemory A) (row' : List A) (comparisons : ℕ) : Type 0 where
     pub one : used S.plan ≡ only_stage S ∷ []
     pub moved :
-        OriginsMoved K (only_stage S) (height_of S) S.step (front_of_of (only_cells S) S.width M.cells) (take (only_cells S) M.columns) row
-        (front_of_of (only_cells S) S.width M'.cells) (take (only_cells S) M'.columns) row' comparisons
+        OriginsMoved K (only_stage S) (height_of S) S.step (front_in (only_cells S) S.width M.cells) (take (only_cells S) M.columns) row
+        (front_in (only_cells S) S.width M'.cells) (take (only_cells S) M'.columns) row' comparisons
     pub rest : behind (only_cells S) S.width M'.cells ≡ behind (only_cells S) S.width M.cells
     pub columns_rest : drop (only_cells S) M'.columns ≡ drop (only_cells S) M.columns
 

@@ -17,7 +17,7 @@ use Rattle.morph.specs.Numbers.{given}
 use Rattle.morph.proofs.Numbers.{first_one, first_skip, first_found, first_zero, skip, found}
 use Rattle.sample.specs.Samples.{Samples}
 use Rattle.morph.specs.Cell.{read_at}
-use Rattle.memory.specs.Memory.{column_at, Memory, memory, front_of_of, behind, sound_records, all_sound, StageHolds, Holds}
+use Rattle.memory.specs.Memory.{column_at, Memory, memory, front_in, behind, sound_records, all_sound, StageHolds, Holds}
 use Rattle.columns.proofs.Column.{column_length}
 use Rattle.memory.proofs.Records.{sound_test}
 use Rattle.plan_record.specs.declared.Stage.{Stage}
@@ -171,7 +171,7 @@ abbrev Zeros : ℕ → List ℕ → Type 0
 Zeros n l = (i : ℕ) → i < n → get_or l i 0 ≡ 0
 
 module _ {A : Type 0} (K : Samples A) where
-  stage_first : (s : Stage) (W : ℕ) (p : Picture A) (t : ℕ) → t ≡ 0 → (M : Memory A) → Zeros W M.lengths → StageHolds K s W p t (front_of_of (cells_of W s) W M)
+  stage_first : (s : Stage) (W : ℕ) (p : Picture A) (t : ℕ) → t ≡ 0 → (M : Memory A) → Zeros W M.lengths → StageHolds K s W p t (front_in (cells_of W s) W M)
   unfolding column_queue
   stage_first s W p t e M h x k =
       none _

@@ -19,7 +19,7 @@ use Rattle.plan_record.specs.declared.Stage.{Stage}
 use Rattle.plan_record.specs.declared.Plan.{Plan}
 use Rattle.plan_record.specs.Numbers.{sample_number}
 use Rattle.plan_record.specs.Plan.{record_number, used, filter_of, below_of, cells_of, total, cells_needed, records_needed, plan_ahead}
-use Rattle.memory.specs.Memory.{Memory, front_of_of, behind, all_sound, StageHolds, Holds}
+use Rattle.memory.specs.Memory.{Memory, front_in, behind, all_sound, StageHolds, Holds}
 use Rattle.chain.specs.Inner.{Ready, PlanStep}
 use Rattle.chain.proofs.Memory.{AtLeast, Sized, AsLong, append, append_front, append_behind, append_long}
 use Rattle.picture_state.specs.declared.State.{State}
@@ -46,15 +46,15 @@ sound_cut W (s ∷ ss) starts lengths =
     rw (e, take-take W (W + length ss * W) starts (omega arith), take-take W (W + length ss * W) lengths (omega arith), drop_take W (length ss * W) starts, drop_take W (length ss * W) lengths, sound_cut W ss (drop W starts) (drop W lengths))
 
 module _ {A : Type 0} (c C W R R' : ℕ) (e : R' ≡ W + R) (M : Memory A) where
-  cut_front : front_of_of c W (front_of_of (c + C) R' M) ≡ front_of_of c W M
+  cut_front : front_in c W (front_in (c + C) R' M) ≡ front_in c W M
   cut_front = rw (take-take c (c + C) M.values (omega arith), take-take c (c + C) M.positions (omega arith), take-take W R' M.starts (omega arith), take-take W R' M.lengths (omega arith))
 
-  cut_behind : behind c W (front_of_of (c + C) R' M) ≡ front_of_of C R (behind c W M)
+  cut_behind : behind c W (front_in (c + C) R' M) ≡ front_in C R (behind c W M)
   cut_behind = rw (e, drop_take c C M.values, drop_take c C M.positions, drop_take W R M.starts, drop_take W R M.lengths)
 
 -- the memory that the stages need
 module _ {A : Type 0} (K : Samples A) where
-  holds_cut : (ss : List Stage) (W : ℕ) (p : Picture A) (t : ℕ) (M : Memory A) → Holds K ss W p t M → Holds K ss W p t (front_of_of (total (cells_of W) ss) (length ss * W) M)
+  holds_cut : (ss : List Stage) (W : ℕ) (p : Picture A) (t : ℕ) (M : Memory A) → Holds K ss W p t M → Holds K ss W p t (front_in (total (cells_of W) ss) (length ss * W) M)
   unfolding Holds
   holds_cut [] W p t M h = tt
   holds_cut (s ∷ ss) W p t M h =
@@ -64,7 +64,7 @@ module _ {A : Type 0} (K : Samples A) where
         subst (Holds K ss W P (t - below_of s)) (sym (cut_behind (cells_of W s) (total (cells_of W) ss) W (length ss * W) (suc (length ss) * W) e M)) (holds_cut ss W P (t - below_of s) (behind (cells_of W s) W M) h.1),
       )
 
-  holds_whole : (ss : List Stage) (W : ℕ) (p : Picture A) (t : ℕ) (M : Memory A) → Holds K ss W p t (front_of_of (total (cells_of W) ss) (length ss * W) M) → Holds K ss W p t M
+  holds_whole : (ss : List Stage) (W : ℕ) (p : Picture A) (t : ℕ) (M : Memory A) → Holds K ss W p t (front_in (total (cells_of W) ss) (length ss * W) M) → Holds K ss W p t M
   unfolding Holds
   holds_whole [] W p t M h = tt
   holds_whole (s ∷ ss) W p t M h =
@@ -131,7 +131,7 @@ module _ {A : Type 0} (K : Samples A) (S : State) (M : Memory A) (long : length 
   used_long : StateSound S → length (used S.plan) ≡ S.plan.count
   used_long r = rw length-take (omega (arith, r.plan.few))
 
-  pub fit_ready : Fit S M → Ready (used S.plan) S.width (front_of_of C R M)
+  pub fit_ready : Fit S M → Ready (used S.plan) S.width (front_in C R M)
   fit_ready h =
       let n = used_long h.run in
       let e : length (used S.plan) * S.width ≡ R = rw n in
@@ -151,7 +151,7 @@ module _ {A : Type 0} (K : Samples A) (S : State) (M : Memory A) (long : length 
   backed F = append F (behind C R M)
 
   module _ (h : Fit S M) (row : List A) (wide : length row ≡ S.width) (F : Memory A) (row' : List A) (c : ℕ) (due : Bool)
-      (g : PlanStep K (used S.plan) (height_of S) S.step (front_of_of C R M) row F row' c due) where
+      (g : PlanStep K (used S.plan) (height_of S) S.step (front_in C R M) row F row' c due) where
     ready' : Ready (used S.plan) S.width F
     ready' = rw wide at g.ready
 
@@ -177,7 +177,7 @@ module _ {A : Type 0} (K : Samples A) (S : State) (M : Memory A) (long : length 
           lengths_long = ready'.lengths_long ∙ sym r.lengths_long;
         })
 
-    backed_front : front_of_of C R (backed F) ≡ F
+    backed_front : front_in C R (backed F) ≡ F
     backed_front = append_front C R F (behind C R M) sized
 
     backed_sound : all_sound S.width (used S.plan) (backed F).starts (backed F).lengths ≡ true
@@ -237,7 +237,7 @@ module _ {A : Type 0} (K : Samples A) (S : State) (M : Memory A) (plan : Plan) (
   pub fit_lent : AtLeast cells records M
   fit_lent = rw (c, r, same.0) (record { values_long = h.values_lent; positions_long = h.positions_lent; starts_long = h.starts_lent; lengths_long = h.lengths_lent })
 
-  pub run_ready : (pixels : List A) → length pixels ≡ S.width → Ready (used plan) (length pixels) (front_of_of cells records M)
+  pub run_ready : (pixels : List A) → length pixels ≡ S.width → Ready (used plan) (length pixels) (front_in cells records M)
   run_ready pixels wide = rw (wide, c, r, same.0) (fit_ready K S M same.1 h)
 
 -- the stages of the state's plan have run on what is needed of the memory, and F and pixels' came back
@@ -247,7 +247,7 @@ pub record Went {A : Type 0} (K : Samples A) (S : State) (M : Memory A) (pixels 
   pub records_are : records ≡ records_needed plan S.width
   pub fit : Fit S M
   pub wide : length pixels ≡ S.width
-  pub step : PlanStep K (used plan) (height_of S) S.step (front_of_of cells records M) pixels F pixels' n due
+  pub step : PlanStep K (used plan) (height_of S) S.step (front_in cells records M) pixels F pixels' n due
 
 module _ {A : Type 0} {K : Samples A} {S : State} {M : Memory A} {pixels : List A} {plan : Plan} {cells records : ℕ} {F : Memory A} {pixels' : List A} {n : ℕ} {due : Bool}
     (g : Went K S M pixels plan cells records F pixels' n due) where

@@ -1,6 +1,6 @@
 // Stage and plan records: judging them, and the memory and the look-ahead that a plan needs.
 ghost use Rattle.std.specs.Prelude.{◌≡◌, [], ◌∷◌, ◌+◌, ◌≤◌, ◌<◌};
-ghost use Rattle.morph.specs.Order.{back_of_of, ahead_of};
+ghost use Rattle.morph.specs.Order.{reach_back, ahead_of};
 ghost use Rattle.morph.specs.Numbers.{extent_number};
 ghost use Rattle.plan_record.specs.Plan.{plan_of, used, size_of, below_of, cells_needed, records_needed, plan_ahead, count_number, record_number, needs_of_none, needs_of};
 ghost use Rattle.plan_record.specs.Inner.{added};
@@ -101,7 +101,7 @@ pub fn size_of(stage: Stage) -> usize
 
 // How far a window of two extents reaches back, and how far ahead.
 fn back_of(kind: Kind, a: u8, b: u8) -> usize
-    ensures { (result ≡ back_of_of kind a b) × (result < 256) }
+    ensures { (result ≡ reach_back kind a b) × (result < 256) }
 {
     match kind {
         Kind::Erosion => wide(a),
@@ -120,7 +120,7 @@ fn ahead_of(kind: Kind, a: u8, b: u8) -> usize
 
 // B across.
 pub fn back_across(stage: Stage) -> usize
-    ensures { (result ≡ back_of_of stage.kind stage.left stage.right) × (result < 256) }
+    ensures { (result ≡ reach_back stage.kind stage.left stage.right) × (result < 256) }
 {
     let kind = stage.kind;
     back_of(kind, stage.left, stage.right)
@@ -136,7 +136,7 @@ pub fn ahead_across(stage: Stage) -> usize
 
 // B down.
 pub fn above(stage: Stage) -> usize
-    ensures { (result ≡ back_of_of stage.kind stage.up stage.down) × (result < 256) }
+    ensures { (result ≡ reach_back stage.kind stage.up stage.down) × (result < 256) }
 {
     let kind = stage.kind;
     back_of(kind, stage.up, stage.down)

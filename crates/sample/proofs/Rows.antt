@@ -6,7 +6,7 @@ use mathlib.Core.List.{List, [], ◌∷◌, ◌++◌, map, append-nil}
 use Prim.Native.Nat.{ℕ, zero, suc, ◌+◌, ◌≤◌, ◌<◌}
 use native.Mathlib.Numerals.{add-one}
 use native.Mathlib.Omega.{arith}
-use borrow.Author.Tests.{ltb-false, lt-ltb, le-ltb, not_true, not-false}
+use borrow.Author.Tests.{ltb-false, lt-ltb, le-ltb, not-true, not-false}
 use lib.Dec.{T, ltb, leb-suc-suc}
 use lib.ListN.{length, take, drop, get_or, set, length-set, drop_of_length-le}
 use lib.Seq.{take-suc, drop-cons, append_snoc, set_at, get_or_at, take_all, length-take-le}
@@ -78,7 +78,7 @@ module _ {A : Type 0} (K : Samples A) where
   -- a row that was looked through
   module _ (row : List A) (n : ℕ) (e : n ≡ first_bad K row) where
     pub not_all : n < length row → all K.good row ≡ false
-    not_all h = not_true _ (sym (all_first row) ∙ ap (λ k. ltb k (length row)) (sym e) ∙ lt-ltb n (length row) h)
+    not_all h = not-true _ (sym (all_first row) ∙ ap (λ k. ltb k (length row)) (sym e) ∙ lt-ltb n (length row) h)
 
     pub is_all : length row ≤ n → all K.good row ≡ true
     is_all h = not-false _ (sym (all_first row) ∙ ap (λ k. ltb k (length row)) (sym e) ∙ le-ltb n (length row) h)

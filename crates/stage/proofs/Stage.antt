@@ -10,7 +10,7 @@ use lib.ListN.{length, get_or, length-map}
 use lib.Seq.{ext_get_or}
 use Rattle.morph.specs.declared.Kind.{Kind}
 use Rattle.morph.specs.declared.Kind.TheVariants.{Erosion, Dilation}
-use Rattle.morph.specs.Order.{Order, order_of, back_of_of, ahead_of}
+use Rattle.morph.specs.Order.{Order, order_of, reach_back, ahead_of}
 use Rattle.morph.specs.Lists.{Each, tabulate, sum_to}
 use Rattle.morph.specs.Line.{Entry, filter_line, front, line_cost, line_costs}
 use Rattle.morph.specs.Cell.{read_at}
@@ -33,7 +33,7 @@ use Rattle.plan_record.specs.Plan.{filter_of, size_of, below_of}
 use Rattle.stage.specs.Inner.{RowTaken, StageMoved, StageStep}
 
 -- the window reaches no further than its extents
-pub back_small : (kind : Kind) (a b : ℕ) → a ≤ 31 → b ≤ 31 → back_of_of kind a b ≤ 31
+pub back_small : (kind : Kind) (a b : ℕ) → a ≤ 31 → b ≤ 31 → reach_back kind a b ≤ 31
 back_small Erosion a b h k = h
 back_small Dilation a b h k = k
 
@@ -49,7 +49,7 @@ lent_as P W P' W' ps ss ls e f h = rw (e, f) h
 pub size_window : {A : Type 0} (O : Order A) (s : Stage) → window (filter_of O s) ≡ size_of s
 size_window O s = go s.kind
   where
-    go : (kind : Kind) → back_of_of kind s.up s.down + ahead_of kind s.up s.down + 1 ≡ s.up + s.down + 1
+    go : (kind : Kind) → reach_back kind s.up s.down + ahead_of kind s.up s.down + 1 ≡ s.up + s.down + 1
     go Erosion = refl
     go Dilation = omega arith
 
@@ -193,7 +193,7 @@ module _ {A : Type 0} (K : Samples A) (s : Stage) (H t : ℕ) (M : Memory A) (ro
         told = λ p whole holds e.
             let good : Each (λ a. K.good a ≡ true) row = rw (e l) (each_get_d _ p t [] whole.good (omega (arith, whole.high))) in
             let f = h.filtered.filtered good ∙ ap (filter_line (order_of s.kind K.order) _ _) (e l) in
-            let a = h.filtered.counted good ∙ ap (λ r. line_costs (order_of s.kind K.order) (back_of_of s.kind s.left s.right + ahead_of s.kind s.left s.right + 1) r (length row)) (e l) in (
+            let a = h.filtered.counted good ∙ ap (λ r. line_costs (order_of s.kind K.order) (reach_back s.kind s.left s.right + ahead_of s.kind s.left s.right + 1) r (length row)) (e l) in (
               read_holds K s (length row) H p whole t M M' holds l row' h.across h.down h.read w f a,
               h.sum ∙ read_cost K s (length row) H p whole t M M' holds l row' h.across h.down h.read w f a,
             );

@@ -1,7 +1,7 @@
 -- Inner: only contracts of inner functions, and proofs, cite what stands here; no promise of a public call is made of it.
 -- One stage's own step in lent memory: what it makes of its queues and of the row, and its comparisons.
 use Rattle.std.specs.Prelude.{◌≡◌, List, [], ℕ, ◌+◌, ◌-◌, ◌≤◌, ◌<◌, length, get_or}
-use Rattle.morph.specs.Order.{back_of_of, ahead_of}
+use Rattle.morph.specs.Order.{reach_back, ahead_of}
 use Rattle.morph.specs.Picture.{Picture, apply_stage}
 use Rattle.morph.specs.Plan.{stage_cost}
 use Rattle.sample.specs.Samples.{Samples}
@@ -17,7 +17,7 @@ module _ {A : Type 0} (K : Samples A) where
     pub across : ℕ
     pub down : ℕ
     pub sum : comparisons ≡ across + down
-    pub filtered : Across K s.kind (back_of_of s.kind s.left s.right) (ahead_of s.kind s.left s.right) row row' across
+    pub filtered : Across K s.kind (reach_back s.kind s.left s.right) (ahead_of s.kind s.left s.right) row row' across
     pub read :
         RowRead K s.kind (size_of s) t row' M.values M.positions M.starts M.lengths M'.values M'.positions M'.starts M'.lengths down
 

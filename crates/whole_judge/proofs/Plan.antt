@@ -7,7 +7,7 @@ use native.Mathlib.Omega.{arith}
 use lib.ListN.{length, drop, get_or, length-take, drop_of_length-le}
 use lib.Seq.{drop-cons, get_or-take}
 use Rattle.morph.specs.Lists.{Each}
-use Rattle.morph.specs.Order.{Order, order_of, back_of_of, ahead_of}
+use Rattle.morph.specs.Order.{Order, order_of, reach_back, ahead_of}
 use Rattle.morph.specs.Picture.{Picture, apply_stage, apply_plan}
 use Rattle.sample.specs.Samples.{Samples}
 use Rattle.plan_record.specs.declared.Stage.{Stage}
@@ -25,7 +25,7 @@ use Rattle.whole_judge.specs.Inner.{Applied}
 
 module _ {A : Type 0} (O : Order A) (P : A → Type 0) (told : Told O P) (s : Stage) (W H : ℕ) (xs row row' zs : List A) (n : length xs ≡ H * W) (all : Each P xs) where
   -- the extents as the code hands them on
-  module _ (b f a d : ℕ) (eb : b ≡ back_of_of s.kind s.left s.right) (ef : f ≡ ahead_of s.kind s.left s.right) (ea : a ≡ back_of_of s.kind s.up s.down) (ed : d ≡ ahead_of s.kind s.up s.down)
+  module _ (b f a d : ℕ) (eb : b ≡ reach_back s.kind s.left s.right) (ef : f ≡ ahead_of s.kind s.left s.right) (ea : a ≡ reach_back s.kind s.up s.down) (ed : d ≡ ahead_of s.kind s.up s.down)
       (c : Crossed (order_of s.kind O) W H b f xs zs × UsedUpTo W row row') where
     pub stage_crossed : Each P zs
     stage_crossed = crossed_each (order_of s.kind O) P W H b f xs zs n all c.0

@@ -1,7 +1,7 @@
 -- `queue::grey::pop` meets its contract. The loop's invariant: `left` entries are left, and `at` is the place behind them.
 use mathlib.Core.Path.{◌≡◌, sym, ◌∙◌}
 use Prim.Native.Nat.{◌≤◌, ◌+◌}
-use borrow.Author.Tests.{not_true, not-false}
+use borrow.Author.Tests.{not-true, not-false}
 use native.Mathlib.Omega.{arith}
 use lib.ListN.{length}
 use Rattle.morph.specs.Ring.{wrap}
@@ -39,7 +39,7 @@ returns c =
     let l = c.before.before.before.before.before.loop in
     let p = c.before.before.before.previous in
     let e = wrap_before _ _ l.left p.result (omega arith) (omega arith) (omega arith) p.ensures.0 (p.ensures.1 ∙ l.invariant.1) in
-    (left_stop _ _ _ _ _ _ l.left p.result (omega arith) (omega arith) e l.invariant.2 (sym c.before.passes.ensures ∙ not_true _ c.if1.true), omega arith, l.invariant.1, rw l.invariant.1 (wrap_lt _ _ (omega arith)))
+    (left_stop _ _ _ _ _ _ l.left p.result (omega arith) (omega arith) e l.invariant.2 (sym c.before.passes.ensures ∙ not-true _ c.if1.true), omega arith, l.invariant.1, rw l.invariant.1 (wrap_lt _ _ (omega arith)))
 
 sub-left : tie.Need-overflow-sub-left invariant-loop decreases-loop
 sub-left c = omega arith

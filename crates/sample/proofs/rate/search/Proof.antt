@@ -2,7 +2,7 @@
 use mathlib.Core.Path.{sym, ◌∙◌}
 use Prim.Native.Nat.{◌-◌}
 use native.Mathlib.Omega.{arith}
-use borrow.Author.Tests.{not_true, not-false}
+use borrow.Author.Tests.{not-true, not-false}
 use lib.ListN.{length}
 use Rattle.sample.specs.Samples.{rates}
 use Rattle.sample.proofs.Rows.{Searched, search_next, search_stop, search_end}
@@ -31,7 +31,7 @@ returns : tie.Need-returns invariant-loop decreases-loop
 returns c =
     let l = c.before.before.before.before.loop in
     let f = c.before.is_finite in
-    search_stop rates _ l.i l.invariant (omega arith) (sym f.ensures ∙ not_true f.result c.if1.true)
+    search_stop rates _ l.i l.invariant (omega arith) (sym f.ensures ∙ not-true f.result c.if1.true)
 
 add-i : tie.Need-overflow-add-i invariant-loop decreases-loop
 add-i c = omega arith
