@@ -1,3 +1,4 @@
+#![tactic(auto)]
 // The dark residue of single rows, by the call and by the one that C programs link. A refused call from C leaves 77 where it stood.
 use residue::Residue;
 

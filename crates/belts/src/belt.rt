@@ -12,7 +12,7 @@ pub const ALL: u8 = 1;
 pub const REST: u8 = 2;
 
 // The cells' values of both kinds, their positions, the column records, and an output row of each kind.
-#[derive(Drop)]
+#[derive(Clone, Copy)]
 pub struct Memory {
     pub greys: [u8; 4096],
     pub rates: [f32; 4096],
@@ -24,7 +24,7 @@ pub struct Memory {
 }
 
 // How many of the values, positions, starts and lengths are lent.
-#[derive(Drop)]
+#[derive(Clone, Copy)]
 pub struct Lent {
     pub values: usize,
     pub positions: usize,
@@ -33,7 +33,7 @@ pub struct Lent {
 }
 
 // So many cells and so many records, from the first on.
-#[derive(Drop)]
+#[derive(Clone, Copy)]
 pub struct Edge {
     pub cells: usize,
     pub records: usize,
@@ -41,7 +41,7 @@ pub struct Edge {
 
 // A run. The edge parts what the plan needs from what is behind it; the sums are of all of the memory and of what is behind the edge. The start and the length are those that a
 // record had before it was set.
-#[derive(Drop)]
+#[derive(Clone, Copy)]
 pub struct Belt {
     pub state: State,
     pub memory: Memory,

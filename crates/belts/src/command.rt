@@ -14,7 +14,7 @@ ghost use Rattle.std.specs.Prelude.{◌≡◌, ◌≤◌, ◌<◌, length, take}
 
 use script::up_to;
 
-#[derive(Drop)]
+#[derive(Clone, Copy)]
 pub struct Command {
     pub op: u8,
     pub x: u8,

@@ -1,5 +1,6 @@
 // The stages of a plan, chained: a step of the plan goes through them one after another on the memory lent. A stage owns the front of the memory and the rest of the
 // plan the rest of it, so that the stages are a recursion; a row comes out of the last stage when the look-ahead of all of them is done.
+#![tactic(auto)]
 
 ghost use Rattle.std.specs.Prelude.{◌≡◌, ◌≤◌};
 ghost use Rattle.plan_record.specs.Plan.{cells_of};

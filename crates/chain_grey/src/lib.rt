@@ -1,4 +1,5 @@
 // Plans over grey bytes.
+#![tactic(auto)]
 
 ghost use Rattle.std.specs.Prelude.{◌≡◌, ◌≤◌, length};
 ghost use Rattle.sample.specs.Samples.{greys};
@@ -9,14 +10,14 @@ ghost use Rattle.chain.specs.Inner.{after, Ready, Begins, Leaves, Fronted, PlanS
 use plan_record::{Plan, Stage};
 
 // What the stages of a plan made of a step: the comparisons, and whether the last stage's row stands in the row's place.
-#[derive(Drop)]
+#[derive(Clone, Copy)]
 pub struct Ran {
     pub comparisons: usize,
     pub due: bool,
 }
 
 // What a stage's own step made, and where the memory and the steps of the stages behind it begin.
-#[derive(Drop)]
+#[derive(Clone, Copy)]
 struct Front {
     comparisons: usize,
     cells: usize,

@@ -1,6 +1,7 @@
 // The columns of one stage in lent memory: every column is a queue of its own, and a step moves them all on.
 // The slices are the stage's part and no more: with P places a column, column x has the P cells from x * P on, and record x, a start and a length.
 // A column's step costs the same whatever the window; the cells of a column lie together, and a step goes over them from left to right.
+#![tactic(auto)]
 
 ghost use Rattle.std.specs.Prelude.{◌≡◌, ◌*◌, ◌≤◌, ◌<◌, ◌&&◌, ltb, leb, length};
 ghost use Rattle.morph.specs.Inner.{cells_roomed};

@@ -1,4 +1,5 @@
 // Columns of grey bytes.
+#![tactic(auto)]
 
 ghost use Rattle.std.specs.Prelude.{◌≡◌, ℕ, ◌+◌, ◌*◌, ◌≤◌, ◌<◌, length, get_or};
 ghost use Rattle.morph.specs.Lists.{tabulate};

@@ -1,5 +1,6 @@
 // Parts filled from a descriptor and frames written to one. Every read and write of a run is made here, and what fails is said here, on standard error, before errno is lost.
 // A descriptor that does not block is waited for, as one that blocks would have its caller wait.
+#![tactic(auto)]
 
 ghost use Rattle.std.specs.Prelude.{◌≤◌, length};
 ghost use Rattle.descriptors.specs.Filled.{Fills};
@@ -8,7 +9,7 @@ ghost use Rattle.descriptors.specs.Filled.{Fills};
 const PATIENCE: u32 = 4294967295;
 
 // What a part was filled with: so many bytes at its front, fewer than it holds only where the input has ended; or a read failed.
-#[derive(Drop)]
+#[derive(Clone, Copy)]
 pub enum Filled {
     With(usize),
     Failed,

@@ -1,5 +1,6 @@
 // What the scanner bench's firmware links: plain C-callable functions, the one-row filter on numbers and two rows of grey bytes, the same with positions, a whole job in memory, plans applied to whole pictures, the dark residue of a row, and the question whether a whole picture's residue is over a limit.
 // From C a row, a job, a picture or an output is a pointer and then a length. Those of a call may not overlap; nothing past any is read or written.
+#![tactic(auto)]
 
 ghost use Rattle.std.specs.Prelude.{◌≡◌};
 ghost use Rattle.sample.specs.Samples.{greys, rates};
@@ -185,7 +186,7 @@ pub extern "C" fn kelafshir_worn_start(
 
 // What a pair of rows comes to: 0 or the number of a refusal; the answer, 1 for yes, 2 for no, 0 for not yet and with a refusal; and the question after it.
 #[repr(C)]
-#[derive(Drop)]
+#[derive(Clone, Copy)]
 pub struct WornTold {
     pub number: u8,
     pub answer: u8,

@@ -1,4 +1,5 @@
 // A row of floats and its bytes.
+#![tactic(auto)]
 
 ghost use Rattle.std.specs.Prelude.{◌≡◌, ◌∷◌, ◌+◌, ◌*◌, length};
 ghost use Rattle.sample.specs.Bytes.{floats_of, bytes_of_row};

@@ -2,7 +2,7 @@
 use picture::{State, Stepped};
 
 // A run over a picture of floats, and its output row.
-#[derive(Drop)]
+#[derive(Clone, Copy)]
 struct Rates {
     state: State,
     out: [f32; 3],

@@ -1,4 +1,5 @@
 // The job layout: its readers, group by group and whole; the view of a job's rows; and the writer of what stands before the rows.
+#![tactic(auto)]
 
 // meaning: job_read/specs/Job.antt `head_answered`
 pub use job_read::Head;

@@ -1,4 +1,5 @@
 // The turns of a job from memory to memory, on memory that is lent: the loop of crate job_run.
+#![tactic(auto)]
 
 ghost use Rattle.std.specs.Prelude.{◌≡◌, ◌++◌, ◌≤◌, length, drop};
 ghost use Rattle.answer.specs.Answer.{answer_of};

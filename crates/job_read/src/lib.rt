@@ -1,3 +1,4 @@
+#![tactic(auto)]
 // Readers of the job layout, group by group and whole.
 ghost use Rattle.std.specs.Prelude.{◌≡◌, [], ◌∷◌, ◌++◌, ◌+◌, ◌-◌, ◌≤◌, length, get_or, drop, replicate};
 ghost use Rattle.job_read.specs.Layout.{sample_bytes_of, low_high_of};
@@ -7,7 +8,7 @@ use morph::wide;
 use plan_record::{Plan, Reading};
 
 // A job that was read: its plan, its image head, and where its rows begin.
-#[derive(Drop)]
+#[derive(Clone, Copy)]
 pub struct Job {
     pub plan: Plan,
     pub sample: u8,
@@ -17,7 +18,7 @@ pub struct Job {
 }
 
 // What reading an image head gives: 0 and its fields, or a refusal's number and zeros.
-#[derive(Drop)]
+#[derive(Clone, Copy)]
 pub struct Head {
     pub number: u8,
     pub sample: u8,
@@ -26,7 +27,7 @@ pub struct Head {
 }
 
 // What reading a whole job gives: 0 and the job, or a refusal's number and all zeros.
-#[derive(Drop)]
+#[derive(Clone, Copy)]
 pub struct JobRead {
     pub number: u8,
     pub job: Job,

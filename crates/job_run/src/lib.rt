@@ -1,4 +1,5 @@
 // A job in memory: the turns of the machine, from a lent job to a lent output.
+#![tactic(auto)]
 
 ghost use Rattle.std.specs.Prelude.{◌≡◌, ◌++◌, ◌+◌, ◌*◌, ◌≤◌, ◌<◌, length, drop};
 ghost use Rattle.job_read.specs.Layout.{row_bytes};
@@ -9,7 +10,7 @@ use job_read::Job;
 
 // What a run comes to: the number at the answer's end and how many bytes the answer has; or 6 and none, where there is too little room.
 #[repr(C)]
-#[derive(Drop)]
+#[derive(Clone, Copy)]
 pub struct JobRun {
     pub number: u8,
     pub written: usize,

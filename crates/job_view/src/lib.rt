@@ -1,4 +1,5 @@
 // The view of a job's rows, as a part of the lent bytes.
+#![tactic(auto)]
 
 ghost use Rattle.std.specs.Prelude.{◌≡◌, ◌*◌, leb};
 ghost use Rattle.job_view.specs.View.{is_there_to, view_number, viewed};

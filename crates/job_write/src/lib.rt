@@ -1,4 +1,5 @@
 // Writing what stands before a job's rows: the plan section and the image head.
+#![tactic(auto)]
 
 ghost use Rattle.std.specs.Prelude.{◌≡◌, [], ◌∷◌, ◌+◌, ◌≤◌, ◌<◌, length};
 ghost use Rattle.std.proofs.lemmas.List.Edits.{sets};
@@ -11,7 +12,7 @@ use morph::Kind;
 use plan_record::{Plan, Stage};
 
 // The bytes that were written, or a refusal's number.
-#[derive(Drop)]
+#[derive(Clone, Copy)]
 pub enum Written {
     Bytes(usize),
     Refused(u8),

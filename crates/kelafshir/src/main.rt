@@ -1,3 +1,4 @@
+#![tactic(auto)]
 // The program: the job that standard input has is run, and its answer goes to standard output.
 use program::{standard_input, standard_output};
 

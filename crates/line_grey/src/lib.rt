@@ -1,4 +1,5 @@
 // Lines of grey bytes.
+#![tactic(auto)]
 
 ghost use Rattle.std.specs.Prelude.{◌≡◌, ◌+◌, ◌≤◌, ◌<◌, length, get_or};
 ghost use Rattle.morph.specs.Order.{ahead_of};
@@ -13,7 +14,7 @@ use queue_grey::Entry;
 use row_grey::RowQueue;
 
 // A line between two steps.
-#[derive(Drop)]
+#[derive(Clone, Copy)]
 pub struct Line {
     pub kind: Kind,
     pub left: u8,
@@ -25,7 +26,7 @@ pub struct Line {
 
 // What a step says: a pixel with the position that gave its value, its number and the comparisons made; not yet, with the comparisons made; or a refusal, with the position
 // that number 8 names.
-#[derive(Drop)]
+#[derive(Clone, Copy)]
 pub enum Answer {
     Pixel {
         value: u8,
@@ -43,21 +44,21 @@ pub enum Answer {
 }
 
 // What a step hands back: its answer, and the line after it.
-#[derive(Drop)]
+#[derive(Clone, Copy)]
 pub struct Stepped {
     pub answer: Answer,
     pub line: Line,
 }
 
 // What a start hands back: 0 or the number of its refusal, and the line.
-#[derive(Drop)]
+#[derive(Clone, Copy)]
 pub struct Started {
     pub number: u8,
     pub line: Line,
 }
 
 // What a read-out shows: an entry of the queue, or a refusal.
-#[derive(Drop)]
+#[derive(Clone, Copy)]
 pub enum ReadOut {
     Found(Entry),
     Refused(u8),

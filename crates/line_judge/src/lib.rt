@@ -1,4 +1,5 @@
 // Which calls of a line are refused, on plain numbers: grey bytes and floats share it.
+#![tactic(auto)]
 
 ghost use Rattle.std.specs.Prelude.{◌≡◌, [], ◌∷◌, ◌<◌};
 ghost use Rattle.morph.specs.Order.{reach_back, ahead_of, kind_of};

@@ -114,12 +114,12 @@ cell_too_old w t r z l h k =
 module _ {A : Type 0} where
   popped_read : (f : A → Bool) (s : ℕ) (q : List (Entry A)) → popped f (map (read_at s) q) ≡ popped f q
   popped_read f s [] = refl
-  popped_read f s (e ∷ q) = rw (popped_read f s q, length-map q)
+  popped_read f s (e ∷ q) = rw (popped_read f s q, length-map q (read_at s))
 
   -- reading changes no value: neither the comparisons nor the front
   pub cost_read : (f : A → Bool) (s : ℕ) (q : List (Entry A)) → step_cost f (map (read_at s) q) ≡ step_cost f q
   unfolding step_cost
-  cost_read f s q = rw (popped_read f s q, length-map q)
+  cost_read f s q = rw (popped_read f s q, length-map q (read_at s))
 
   pub front_read : (O : Order A) (s : ℕ) (q : List (Entry A)) → front O (map (read_at s) q) ≡ front O q
   front_read O s [] = refl
@@ -131,8 +131,8 @@ module _ {A : Type 0} where
   cells_roomed_law w t (e ∷ q) z l h =
       let a = cell_too_old w t e.position z l h.0.0 h.0.1 in
       split (leb w (suc (length q)))
-      (λ p. rw (length-map q, p))
-      (λ p. split (eqb e.position ((t + 128 - w) % 128)) (λ b. rw (length-map q, p, b, sym a ∙ b)) (λ b. rw (length-map q, p, b, sym a ∙ b)))
+      (λ p. rw (length-map q (read_at t), p))
+      (λ p. split (eqb e.position ((t + 128 - w) % 128)) (λ b. rw (length-map q (read_at t), p, b, sym a ∙ b)) (λ b. rw (length-map q (read_at t), p, b, sym a ∙ b)))
 
   cells_later : (w t : ℕ) (q : List (Entry A)) → w ≤ 127 → Each (Fresh w t) q → map (read_at (suc t)) q ≡ map (read_at t) q
   cells_later w t [] l h = refl
@@ -149,7 +149,7 @@ module _ {A : Type 0} where
   unfolding cells_stepped stepped
   cells_stepped_law f w t v q z l h =
       let n : read_at (suc t) (record { value = v; position = t % 128 }) ≡ record { value = v; position = t } = ap (λ r. record { value = v; position = r }) (row_kept (suc t) t (omega arith) (omega arith)) in
-      rw (length-map q, popped_read f t q, take_map)
+      rw (length-map q (read_at t), popped_read f t q, take_map)
       (map_append (read_at (suc t)) (cells_roomed w t (take (length q - popped f q) q)) (record { value = v; position = t % 128 } ∷ [])
       ∙ ap (λ r. map (read_at (suc t)) (cells_roomed w t (take (length q - popped f q) q)) ++ (r ∷ [])) n
       ∙ ap (λ m. m ++ (record { value = v; position = t } ∷ [])) (cells_drained w t (take (length q - popped f q) q) z l (each_take (Fresh w t) (length q - popped f q) q h)))

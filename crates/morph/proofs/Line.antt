@@ -1,6 +1,6 @@
 -- The laws of a line's queue, over any order.
 use mathlib.Core.Path.{◌≡◌, refl, sym, ap, ◌∙◌, subst}
-use mathlib.Core.Bool.{Bool, true, false, not, ◌||◌, and-true, or-true}
+use mathlib.Core.Bool.{cond, Bool, true, false, not, ◌||◌, and-true, or-true}
 use mathlib.Core.Logic.{inl, inr, ⊎_elim}
 use mathlib.Core.Option.{none, some}
 use mathlib.Core.List.{List, [], ◌∷◌, ◌++◌, nil≢cons}
@@ -168,7 +168,7 @@ module _ {A : Type 0} (O : Order A) where
   pub best_in : (l : List A) → 0 < length l → In (best O l) l
   best_in [] h = absurd (not-suc-le-zero h)
   best_in (a ∷ []) h = inl refl
-  best_in (a ∷ b ∷ l) h = let i = best_in (b ∷ l) (omega arith) in split (O.le a (best O (b ∷ l))) (λ p. rw p (inr i)) (λ p. rw p (inl refl))
+  best_in (a ∷ b ∷ l) h = let i = best_in (b ∷ l) (omega arith) in split (O.le a (best O (b ∷ l))) (λ p. subst (λ (c : Bool). In (cond c (best O (b ∷ l)) a) (a ∷ b ∷ l)) (sym p) (inr i)) (λ p. subst (λ (c : Bool). In (cond c (best O (b ∷ l)) a) (a ∷ b ∷ l)) (sym p) (inl refl))
 
   -- and no value of the list is greater
   pub best_greatest : (l : List A) (v : A) → In v l → O.le v (best O l) ≡ true

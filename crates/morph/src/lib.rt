@@ -1,10 +1,11 @@
 // What the code of all layers shares: which of the two filters a stage is, and a byte as a number.
 // Everything else of this crate is definitions (specs/) and their laws (proofs/).
+#![tactic(auto)]
 
 ghost use Rattle.std.specs.Prelude.{◌≡◌, ◌<◌};
 
 // Erosion keeps the smallest value under the window, dilation the largest.
-#[derive(Drop)]
+#[derive(Clone, Copy)]
 pub enum Kind {
     Erosion,
     Dilation,

@@ -1,5 +1,6 @@
 // Where the columns of origins are kept in lent memory, and the laws of keeping them and of telling origins. The code is what grey bytes and floats share: an origin is told by
 // positions and columns alone, whatever the values are.
+#![tactic(auto)]
 
 ghost use Rattle.std.specs.Prelude.{◌≡◌, ℕ, ◌*◌, ◌%◌, ◌≤◌, ◌<◌, min, length, get_or, set};
 ghost use Rattle.morph.specs.Lists.{tabulate};

@@ -1,4 +1,5 @@
 // Passes over a line and over the rows of a whole picture, by doubling: what both kinds of samples share. The laws are in proofs/.
+#![tactic(auto)]
 
 ghost use Rattle.std.specs.Prelude.{◌≡◌, ◌-◌, min};
 

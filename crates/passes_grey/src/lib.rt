@@ -1,4 +1,5 @@
 // Passes by doubling over lines of grey bytes, and over the rows of a whole picture of them.
+#![tactic(auto)]
 
 ghost use Rattle.std.specs.Prelude.{◌≡◌, not, ◌-◌, ◌*◌, ◌≤◌, length};
 ghost use Rattle.morph.specs.declared.Kind.TheVariants.{Erosion, Dilation};

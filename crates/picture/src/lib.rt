@@ -4,6 +4,7 @@
 // and `origin_drain`: these also tell the row and the column that each pixel came from, and are lent a column more for each cell.
 // The state goes in by value and comes back. Lent are the cells, a value and a position each, and the column records, a start and a length each; the cells lent are
 // the shorter of the first two slices, the records the shorter of the other two. A refused call writes nothing.
+#![tactic(auto)]
 
 // promise: picture/specs/Runs.antt `PictureRan` and picture/specs/OpenRuns.antt `OpenRan`, of whole runs
 pub mod grey; // grey.rt: pictures of grey bytes

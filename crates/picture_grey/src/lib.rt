@@ -1,4 +1,5 @@
 // Pictures of grey bytes.
+#![tactic(auto)]
 
 ghost use Rattle.std.specs.Prelude.{◌≡◌, map, ◌+◌, ◌≤◌, ◌<◌, length};
 ghost use Rattle.morph.specs.Line.{found, refused};
@@ -139,7 +140,7 @@ pub fn drain(
 }
 
 // What a read-out answers.
-#[derive(Drop)]
+#[derive(Clone, Copy)]
 pub enum ReadOut {
     Found(RowEntry),
     Refused(u8),

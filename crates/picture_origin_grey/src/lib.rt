@@ -1,4 +1,5 @@
 // Pictures of grey bytes, with the origin of each pixel that comes out.
+#![tactic(auto)]
 
 ghost use Rattle.std.specs.Prelude.{◌≡◌, ◌+◌, ◌≤◌, ◌<◌, length};
 ghost use Rattle.sample.specs.Samples.{greys};

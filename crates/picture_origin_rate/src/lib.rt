@@ -1,4 +1,5 @@
 // Pictures of floats, with the origin of each pixel that comes out.
+#![tactic(auto)]
 
 ghost use Rattle.std.specs.Prelude.{◌≡◌, map, ◌+◌, ◌≤◌, ◌<◌, length};
 ghost use Rattle.sample.specs.Samples.{rates};

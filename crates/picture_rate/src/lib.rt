@@ -1,4 +1,5 @@
 // Pictures of floats.
+#![tactic(auto)]
 
 ghost use Rattle.std.specs.Prelude.{◌≡◌, map, ◌+◌, ◌≤◌, ◌<◌, length};
 ghost use Rattle.morph.specs.Line.{found, refused};
@@ -152,7 +153,7 @@ pub fn drain(
 }
 
 // What a read-out answers.
-#[derive(Drop)]
+#[derive(Clone, Copy)]
 pub enum ReadOut {
     Found(RowEntry),
     Refused(u8),

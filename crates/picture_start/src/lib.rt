@@ -1,5 +1,6 @@
 // How a run of a plan over a picture starts and stops: the state before the first step, with the queues empty, of a picture whose rows are counted or of one that is open;
 // and the state of an open run once its stop is said. Crate picture hands on what a caller uses.
+#![tactic(auto)]
 
 use picture_state::State;
 
@@ -12,14 +13,14 @@ pub use end::stop;
 pub use open::{start_open, start_open_numbers};
 
 // What a start gives: 0 and the state before the first step, or a refusal's number and all zeros.
-#[derive(Drop)]
+#[derive(Clone, Copy)]
 pub struct Started {
     pub number: u8,
     pub state: State,
 }
 
 // What a stop gives: 0 and the state after it, or a refusal's number and the state as given.
-#[derive(Drop)]
+#[derive(Clone, Copy)]
 pub struct Stopping {
     pub number: u8,
     pub state: State,

@@ -1,5 +1,6 @@
 // A run of a plan over a picture: its state, which calls on it are refused, and where a read-out's queue lies and how it is read. The steps of grey and of float pictures
 // share it; crate picture_start starts and stops a run, and crate picture hands on what a caller uses.
+#![tactic(auto)]
 
 ghost use Rattle.std.specs.Prelude.{◌≡◌, ◌≤◌, length};
 ghost use Rattle.picture_state.specs.Numbers.{height_of};
@@ -11,7 +12,7 @@ pub mod judging; // judging.rt: which calls are refused
 pub mod place; // place.rt: where a read-out's queue lies, and by how many steps it is read
 
 // How a run ends: after rows that are counted at its start, or where its stop is said, which is still to come or was.
-#[derive(Drop)]
+#[derive(Clone, Copy)]
 pub enum Ending {
     Fixed,
     Open,
@@ -20,7 +21,7 @@ pub enum Ending {
 
 // A run of a plan over a picture: the plan, the sample kind's number, the width, how it ends, the rows, and the steps done.
 // The rows are the count given; 0 while the run is open; and the rows read once it has stopped.
-#[derive(Drop)]
+#[derive(Clone, Copy)]
 pub struct State {
     pub plan: Plan,
     pub sample: u8,
@@ -31,14 +32,14 @@ pub struct State {
 }
 
 // What a step answers.
-#[derive(Drop)]
+#[derive(Clone, Copy)]
 pub enum Answer {
     Row { number: usize, comparisons: usize },
     NotYet { comparisons: usize },
     Refused { number: u8, column: usize },
 }
 
-#[derive(Drop)]
+#[derive(Clone, Copy)]
 pub struct Stepped {
     pub answer: Answer,
     pub state: State,

@@ -43,7 +43,7 @@ pub fn judge_place<'a>(
 }
 
 // Where a stage's cells begin, and the places of its columns.
-#[derive(Drop)]
+#[derive(Clone, Copy)]
 pub struct Part {
     pub cells: usize,
     pub places: usize,

@@ -1,4 +1,5 @@
 // Plans of stages: their records, reading them from numbers, the named plans, and what to lend for them.
+#![tactic(auto)]
 
 // promise: plan_record/specs/Plan.antt `alternating_stages`
 pub use plan_named::alternating;

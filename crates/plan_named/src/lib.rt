@@ -1,4 +1,5 @@
 // The named plans: opening, closing, and the alternate sequential filter.
+#![tactic(auto)]
 
 ghost use Rattle.std.specs.Prelude.{◌≡◌, [], ◌∷◌, ◌≤◌};
 ghost use Rattle.morph.specs.Numbers.{extent_number};

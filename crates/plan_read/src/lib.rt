@@ -1,4 +1,5 @@
 // Reading a plan from numbers: a count and five bytes a stage, or stages of five bytes each.
+#![tactic(auto)]
 
 ghost use Rattle.std.specs.Prelude.{◌≡◌, [], ◌+◌, ◌≤◌, length, get_or};
 ghost use Rattle.morph.specs.Lists.{tabulate};

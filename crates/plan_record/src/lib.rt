@@ -1,3 +1,4 @@
+#![tactic(auto)]
 // Stage and plan records: judging them, and the memory and the look-ahead that a plan needs.
 ghost use Rattle.std.specs.Prelude.{◌≡◌, [], ◌∷◌, ◌+◌, ◌≤◌, ◌<◌};
 ghost use Rattle.morph.specs.Order.{reach_back, ahead_of};
@@ -12,7 +13,7 @@ mod image; // image.rt: the numbers of an image's head
 pub use image::{judge_sample, judge_size};
 
 // A rectangle of four extents, and what is done with it.
-#[derive(Drop)]
+#[derive(Clone, Copy)]
 pub struct Stage {
     pub kind: Kind,
     pub left: u8,
@@ -22,14 +23,14 @@ pub struct Stage {
 }
 
 // The first `count` places are the plan's stages, and the others hold zeros and the kind erosion.
-#[derive(Drop)]
+#[derive(Clone, Copy)]
 pub struct Plan {
     pub count: usize,
     pub stages: [Stage; 16],
 }
 
 // What reading or naming a plan gives: 0 and the plan, or a refusal's number and all zeros.
-#[derive(Drop)]
+#[derive(Clone, Copy)]
 pub struct Reading {
     pub number: u8,
     pub plan: Plan,
@@ -248,7 +249,7 @@ pub fn judge(plan: Plan) -> u8
 // ---- what to lend
 
 // What a plan needs over a picture of a width: 0, the cells, the records and the look-ahead, or a refusal's number and zeros.
-#[derive(Drop)]
+#[derive(Clone, Copy)]
 pub struct Need {
     pub number: u8,
     pub cells: usize,

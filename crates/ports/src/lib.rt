@@ -1,4 +1,5 @@
 // The two descriptors of a run, and what went through them. Every read and write of a run goes through here, and is counted.
+#![tactic(auto)]
 
 ghost use Rattle.std.specs.Prelude.{◌≡◌, false, ◌≤◌, length, pos};
 ghost use Rattle.ports.specs.Ports.{Latest, Due, Receives, Gave};
@@ -7,12 +8,12 @@ use descriptors::Filled;
 
 // Where a job is read from, and where its answer goes: two types, so that neither stands for the other.
 // Their numbers are seen in this crate alone.
-#[derive(Drop)]
+#[derive(Clone, Copy)]
 pub struct Input {
     fd: i32,
 }
 
-#[derive(Drop)]
+#[derive(Clone, Copy)]
 pub struct Output {
     fd: i32,
 }
@@ -44,7 +45,7 @@ pub fn standard_output() -> Output
 // What went through: how many bytes came, whether the input has ended behind them, and how many were given to be written. The fields are seen in this crate
 // alone, so that nothing but a read brings bytes or ends the input, and nothing but a write gives any. Counts can be copied: so the total of both is lent to
 // every read and write, which moves it on and asks that its counts add up to it: older counts are refused.
-#[derive(Drop)]
+#[derive(Clone, Copy)]
 pub struct Moved {
     read: usize,
     ended: bool,
@@ -53,21 +54,21 @@ pub struct Moved {
 
 // A read or a write that failed, what was moved before it, and how many bytes of the write were taken all the same. The fields are seen in this crate alone, so that nothing
 // else fails.
-#[derive(Drop)]
+#[derive(Clone, Copy)]
 pub struct Loss {
     moved: Moved,
     taken: usize,
 }
 
 // What was to be moved went through; or a read or a write failed, and nothing more can be told: a job that cannot be read has not ended early.
-#[derive(Drop)]
+#[derive(Clone, Copy)]
 pub enum Went {
     Through(Moved),
     Lost(Loss),
 }
 
 // What a read comes to, and how many bytes it brought.
-#[derive(Drop)]
+#[derive(Clone, Copy)]
 pub struct Received {
     pub went: Went,
     pub got: usize,

@@ -1,6 +1,7 @@
 // The program that runs a job, on two descriptors: the turns of the machine, with a read before each and a write after it.
 // What a turn wants, uses and puts is decided by crate turn; what is here moves bytes. A read or a write that fails ends the run: nothing can be told any more, and a job that
 // cannot be read gets no number.
+#![tactic(auto)]
 
 ghost use Rattle.std.specs.Prelude.{◌≡◌, ◌-◌, ◌≤◌, length, take, drop};
 ghost use Rattle.turns.specs.Inner.{machine_memory, MemoryRoom};
@@ -11,14 +12,14 @@ ghost use Rattle.program.specs.Inner.{Fetches, Settled};
 pub use ports::{Input, Loss, Moved, Output, Went, input_of, standard_input, standard_output};
 
 // The bytes at hand, at the front of a buffer: how many there are, and what was moved so far.
-#[derive(Drop)]
+#[derive(Clone, Copy)]
 struct Hand {
     moved: Moved,
     have: usize,
 }
 
 // What fetching comes to: how it went, and how many bytes are at hand then.
-#[derive(Drop)]
+#[derive(Clone, Copy)]
 struct Brought {
     went: Went,
     have: usize,

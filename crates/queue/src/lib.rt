@@ -1,6 +1,7 @@
 // A queue in a ring of places, on slices: rows and columns share it. Entry i stands at the place start + i, past the end from the start again.
 // A step pops from the tail what the new value equals or passes, lets the oldest go if it is too old, and pushes: each entry is pushed once and goes once,
 // so a step costs the same whatever the window.
+#![tactic(auto)]
 
 ghost use Rattle.std.specs.Prelude.{◌≡◌, ◌+◌, ◌-◌, ◌%◌, ◌≤◌, ◌<◌, min, length, get_or};
 ghost use Rattle.morph.specs.Ring.{wrap};
@@ -8,14 +9,14 @@ ghost use Rattle.morph.specs.Cell.{age_of, row_of};
 ghost use Rattle.queue.specs.Inner.{goes_of, cell_goes_of};
 
 // How many entries a new value leaves unpassed, and the place behind them.
-#[derive(Drop)]
+#[derive(Clone, Copy)]
 pub struct Kept {
     pub count: usize,
     pub behind: usize,
 }
 
 // Where a new entry goes, what stays before it, and the comparisons made.
-#[derive(Drop)]
+#[derive(Clone, Copy)]
 pub struct Room {
     pub start: usize,
     pub count: usize,
@@ -24,7 +25,7 @@ pub struct Room {
 }
 
 // Where a queue starts and how many entries it has after a step, and the comparisons made.
-#[derive(Drop)]
+#[derive(Clone, Copy)]
 pub struct Ends {
     pub start: usize,
     pub count: usize,

@@ -1,4 +1,5 @@
 // Queues of grey bytes.
+#![tactic(auto)]
 
 ghost use Rattle.std.specs.Prelude.{◌≡◌, ℕ, ◌+◌, ◌-◌, ◌≤◌, ◌<◌, List, length, get_or, set};
 ghost use Rattle.morph.specs.Inner.{popped};
@@ -11,7 +12,7 @@ use morph::Kind;
 use queue::{Ends, Kept, Room};
 
 // A queued value with its position.
-#[derive(Drop)]
+#[derive(Clone, Copy)]
 pub struct Entry {
     pub value: u8,
     pub position: u16,
@@ -133,7 +134,7 @@ pub fn front<'a>(values: &'a [u8], positions: &'a [u16], start: usize) -> Entry
 // ---- queues in lent cells, which keep the remainders of row numbers
 
 // A queued value with the number of its row.
-#[derive(Drop)]
+#[derive(Clone, Copy)]
 pub struct RowEntry {
     pub value: u8,
     pub position: usize,

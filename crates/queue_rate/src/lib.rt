@@ -1,4 +1,5 @@
 // Queues of floats.
+#![tactic(auto)]
 
 ghost use Rattle.std.specs.Prelude.{◌≡◌, ℕ, ◌+◌, ◌-◌, ◌≤◌, ◌<◌, List, length, get_or, set};
 ghost use Rattle.std.specs.Float.{nan};
@@ -12,7 +13,7 @@ use morph::Kind;
 use queue::{Ends, Kept, Room};
 
 // A queued value with its position.
-#[derive(Drop)]
+#[derive(Clone, Copy)]
 pub struct Entry {
     pub value: f32,
     pub position: u16,
@@ -134,7 +135,7 @@ pub fn front<'a>(values: &'a [f32], positions: &'a [u16], start: usize) -> Entry
 // ---- queues in lent cells, which keep the remainders of row numbers
 
 // A queued value with the number of its row.
-#[derive(Drop)]
+#[derive(Clone, Copy)]
 pub struct RowEntry {
     pub value: f32,
     pub position: usize,

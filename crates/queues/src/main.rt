@@ -1,9 +1,10 @@
+#![tactic(auto)]
 // A plan of 3 stages over a picture of grey bytes, step by step with its queues, calls out of turn, and states and records that rule 12 refuses. The output row is shown after every call: it stays as it was where no row came.
 use picture::State;
 use picture::grey::ReadOut;
 
 // A run over a picture of grey bytes, and its output row.
-#[derive(Drop)]
+#[derive(Clone, Copy)]
 struct Greys {
     state: State,
     out: [u8; 3],

@@ -1,3 +1,4 @@
+#![tactic(auto)]
 // The dark residue of a row: how much lighter a closing made it, added over the columns that the closing's windows do not reach past the picture's edge from.
 ghost use Rattle.std.specs.Prelude.{◌≡◌, false, ◌||◌, ◌+◌, ◌-◌, ◌≤◌, ◌<◌, ltb, length};
 ghost use Rattle.morph.specs.Numbers.{given};
@@ -7,7 +8,7 @@ ghost use Rattle.residue.specs.Inner.{band_number, part_residue, part_negative};
 use morph::wide;
 
 // The sum, or a refusal's number.
-#[derive(Drop)]
+#[derive(Clone, Copy)]
 pub enum Residue {
     Sum(usize),
     Refused(u8),

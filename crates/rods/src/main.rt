@@ -1,5 +1,6 @@
 // The question "too worn", asked by the calls and by those that C programs link, each way with a question of its own.
 // A line for each call tells what it gave, and all of the question after it; compared with the file stdout.
+#![tactic(auto)]
 
 mod bands; // bands.rt: pictures of which only a band is counted
 mod pairs; // pairs.rt: pictures of 2 columns and 3 rows

@@ -2,7 +2,7 @@
 use worn::{Begun, Question, Worn};
 
 // A rod that is asked about: the question that the calls gave, and the one that the calls from C gave.
-#[derive(Drop)]
+#[derive(Clone, Copy)]
 pub struct Rod {
     pub own: Question,
     pub from_c: Question,

@@ -1,6 +1,7 @@
 // A whole row filtered in place (`across`), and the queue of 63 places that it and a line's steps keep (`RowQueue`).
 // The method keeps a queue of the values that can still be an answer; a row of N pixels takes at most 2N - 2 comparisons, whatever the window.
 // At the edges the window is cut: positions off the row take no part.
+#![tactic(auto)]
 
 ghost use Rattle.std.specs.Prelude.{◌≡◌, ◌+◌, ◌<◌, length};
 ghost use Rattle.row.specs.Inner.{answer_put};

@@ -1,4 +1,5 @@
 // Rows of grey bytes.
+#![tactic(auto)]
 
 ghost use Rattle.std.specs.Prelude.{◌≡◌, ◌+◌, ◌≤◌, ◌<◌, length, replicate, get_or, set};
 ghost use Rattle.sample.specs.Samples.{greys};
@@ -10,7 +11,7 @@ use queue::Room;
 use queue_grey::Entry;
 
 // The row queue: its own 63 places, where it starts, and how many entries it has.
-#[derive(Drop)]
+#[derive(Clone, Copy)]
 pub struct RowQueue {
     pub values: [u8; 63],
     pub positions: [u16; 63],
@@ -19,14 +20,14 @@ pub struct RowQueue {
 }
 
 // What a push leaves: the queue, and the room that the entry was given.
-#[derive(Drop)]
+#[derive(Clone, Copy)]
 pub struct Pushed {
     pub queue: RowQueue,
     pub room: Room,
 }
 
 // What reading a whole row leaves beside the queue's two arrays: where it starts, how many entries it has, and the comparisons made.
-#[derive(Drop)]
+#[derive(Clone, Copy)]
 pub struct Passed {
     pub start: usize,
     pub count: usize,

@@ -1,5 +1,6 @@
 // Rows of grey bytes with their origins: a row filtered in place, as crate row_grey does it, and beside each answer the column that gave it, the latest where several did.
 // It is the position of the queue's front, so that it takes one more store for each pixel and no comparison.
+#![tactic(auto)]
 
 ghost use Rattle.std.specs.Prelude.{◌≡◌, ◌+◌, ◌≤◌, ◌<◌, length};
 ghost use Rattle.sample.specs.Samples.{greys};

@@ -1,3 +1,4 @@
+#![tactic(auto)]
 // How the test programs read their scripts: numbers, low byte first, and plans; and how much of an array is lent.
 ghost use Rattle.std.specs.Prelude.{◌≡◌, ◌≤◌, ◌<◌, length, take};
 

@@ -1,3 +1,4 @@
+#![tactic(auto)]
 // What the test programs write: words, numbers, floats by their bytes, and what a call answers.
 use libc::STDOUT_FILENO;
 use morph::Kind;

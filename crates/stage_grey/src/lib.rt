@@ -1,4 +1,5 @@
 // Stages over grey bytes.
+#![tactic(auto)]
 
 ghost use Rattle.std.specs.Prelude.{◌≡◌, ◌+◌, ◌≤◌, ◌<◌, length};
 ghost use Rattle.sample.specs.Samples.{greys};

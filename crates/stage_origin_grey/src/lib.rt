@@ -1,4 +1,5 @@
 // Stages over grey bytes that also tell where each value came from.
+#![tactic(auto)]
 
 ghost use Rattle.std.specs.Prelude.{◌≡◌, ◌+◌, ◌*◌, ◌≤◌, ◌<◌, length};
 ghost use Rattle.sample.specs.Samples.{greys};

@@ -1,4 +1,5 @@
 // A step on the bytes of a row of floats: a row where there are rows, a drain after them. The row that comes out stands in the frame, behind its marker.
+#![tactic(auto)]
 
 ghost use Rattle.std.specs.Prelude.{◌≡◌, ◌+◌, ◌*◌, ◌≤◌, ◌<◌, length};
 ghost use Rattle.memory.specs.Memory.{memory};

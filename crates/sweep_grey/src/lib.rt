@@ -1,4 +1,5 @@
 // Down the columns of a whole picture of grey bytes, in place: ahead in one sweep, and then back.
+#![tactic(auto)]
 
 ghost use Rattle.std.specs.Prelude.{◌≡◌, ◌⊎◌, ◌+◌, ◌*◌, ◌≤◌, ◌<◌, length};
 ghost use Rattle.morph.specs.declared.Kind.TheVariants.{Erosion, Dilation};

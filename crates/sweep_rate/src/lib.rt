@@ -1,4 +1,5 @@
 // Down the columns of a whole picture of floats that are finite and no negative zeros, in place: ahead in one sweep, and then back.
+#![tactic(auto)]
 
 ghost use Rattle.std.specs.Prelude.{◌≡◌, ◌⊎◌, ◌+◌, ◌*◌, ◌≤◌, ◌<◌, length};
 ghost use Rattle.std.specs.Float.{nan};

@@ -1,5 +1,6 @@
 // One turn of the machine that runs a job: from where it stands and the bytes at hand to the next machine, the bytes that are done with and the bytes to be written.
 // It knows nothing of descriptors: a job in memory (job_run) and the program (program) are loops over it.
+#![tactic(auto)]
 
 ghost use Rattle.std.specs.Prelude.{◌≡◌, ◌≤◌, length};
 ghost use Rattle.turns.specs.Inner.{machine_memory, Stands, Turns};

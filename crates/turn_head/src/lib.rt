@@ -1,4 +1,5 @@
 // The turn at a job's head: the bytes stay at hand until the plan and the image head are judged, and then the picture is begun. Nothing here reads or writes a descriptor.
+#![tactic(auto)]
 
 ghost use Rattle.std.specs.Prelude.{◌≡◌, true, false, ◌⊎◌, ◌∷◌, ◌+◌, ◌≤◌, ◌<◌, length, take, drop};
 ghost use Rattle.job_read.specs.Layout.{job_from};

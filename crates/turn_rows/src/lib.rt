@@ -1,4 +1,5 @@
 // A turn at the rows of a picture: a row, a drain, or what comes after the last step. Grey and float differ in the step alone.
+#![tactic(auto)]
 
 ghost use Rattle.std.specs.Prelude.{◌≡◌, ◌≤◌, ◌<◌, length, ltb};
 ghost use Rattle.turns.specs.declared.Phase.TheVariants.{Rows};

@@ -1,4 +1,5 @@
 // The machine that runs a job by turns: where it stands, how many bytes it wants at hand, and the picture's state. Nothing here reads or writes a descriptor.
+#![tactic(auto)]
 
 ghost use Rattle.std.specs.Prelude.{◌≡◌, true, false, ◌≤◌, length};
 ghost use Rattle.picture_start.specs.Start.{state_of_none};
@@ -8,14 +9,14 @@ ghost use Rattle.turns.specs.Inner.{row_size_of, wants_of, is_over, at_rows_of, 
 use picture_state::{Answer, Ending, State};
 
 // Reading the plan and the head; at the rows, the drains and the byte after them; or done.
-#[derive(Drop)]
+#[derive(Clone, Copy)]
 pub enum Phase {
     Head,
     Rows,
     Over,
 }
 
-#[derive(Drop)]
+#[derive(Clone, Copy)]
 pub struct Machine {
     pub phase: Phase,
     pub wants: usize,
@@ -23,7 +24,7 @@ pub struct Machine {
 }
 
 // What a turn comes to: the next machine, how many of the bytes at hand it has used, and how many bytes at the front of the frame are to be written.
-#[derive(Drop)]
+#[derive(Clone, Copy)]
 pub struct Turned {
     pub machine: Machine,
     pub used: usize,

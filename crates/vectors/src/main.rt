@@ -1,5 +1,6 @@
 // The cases of document 01 that are run, and not proved: a line for each vector, then the lines of data/ with what their steps tell, and its jobs with what the program answers;
 // compared with the file stdout.
+#![tactic(auto)]
 
 mod files; // files.rt: the files of data/
 mod firm; // firm.rt: the firmware's one-row filter

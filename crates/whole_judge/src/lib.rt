@@ -1,11 +1,12 @@
 // Which calls on a whole picture are refused, on plain numbers: grey bytes and floats share it.
+#![tactic(auto)]
 
 ghost use Rattle.std.specs.Prelude.{◌≡◌, ◌<◌, ◌/◌, ◌%◌};
 ghost use Rattle.whole_judge.specs.Whole.{lent_judged};
 
 // What a call on a whole picture answers: 0, or a refusal's number; for 8 the row and the column of the first pixel that is not finite, else zeros.
 #[repr(C)]
-#[derive(Drop)]
+#[derive(Clone, Copy)]
 pub struct Filtered {
     pub number: u8,
     pub row: usize,

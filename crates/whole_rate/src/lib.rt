@@ -1,4 +1,5 @@
 // Plans applied to whole pictures of floats, in place.
+#![tactic(auto)]
 
 ghost use Rattle.std.specs.Prelude.{◌≡◌, ◌*◌, ◌≤◌, length};
 ghost use Rattle.morph.specs.Lists.{Each};

@@ -1,3 +1,4 @@
+#![tactic(auto)]
 // A sorting bench asks, row by row: is this picture's dark residue over a limit? It hands in the rows of the closed picture and of the input in pairs, from the top, and hears yes as soon as no row to come can change that; no once it has handed in all of them.
 ghost use Rattle.std.specs.Prelude.{◌≡◌, ◌+◌, ◌<◌, length};
 ghost use Rattle.worn.specs.Worn.{first_question, over_limit, say_of, is_broken_of, question_with, WornStart, WornPair};
@@ -7,7 +8,7 @@ use residue::Residue;
 
 // What the caller keeps between two pairs: the closing's extents, the picture's size, the limit, how many rows are read, and what their residues add up to. Whether yes was said can be seen from the last and the limit.
 #[repr(C)]
-#[derive(Drop)]
+#[derive(Clone, Copy)]
 pub struct Question {
     pub left: u8,
     pub right: u8,
@@ -21,7 +22,7 @@ pub struct Question {
 }
 
 // The answer to a pair.
-#[derive(Drop)]
+#[derive(Clone, Copy)]
 pub enum Worn {
     Yes,
     No,
@@ -31,14 +32,14 @@ pub enum Worn {
 
 // What a start gives: 0 and the question before the first pair, or a refusal's number and all zeros.
 #[repr(C)]
-#[derive(Drop)]
+#[derive(Clone, Copy)]
 pub struct Begun {
     pub number: u8,
     pub question: Question,
 }
 
 // What a pair gives: the answer, and the question after it.
-#[derive(Drop)]
+#[derive(Clone, Copy)]
 pub struct Asked {
     pub answer: Worn,
     pub question: Question,
