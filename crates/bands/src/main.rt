@@ -1,5 +1,6 @@
-#![tactic(auto)]
 // The dark residue of single rows, by the call and by the one that C programs link. A refused call from C leaves 77 where it stood.
+#![tactic(auto)]
+
 use residue::Residue;
 
 fn said(answer: Residue) {

@@ -1,6 +1,7 @@
-#![tactic(auto)]
 // Runs of pictures by commands, open and fixed, on one state and one set of memory: a line for each command. The commands stand in the files b000, b001, .. of data/, or come by
 // standard input where there is no such file. tests/belts.py makes them, and says by document 01's and 02's definitions what the lines have to be.
+#![tactic(auto)]
+
 ghost use Rattle.std.specs.Prelude.{◌≤◌};
 
 use belt::Belt;

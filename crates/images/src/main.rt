@@ -1,5 +1,6 @@
-#![tactic(auto)]
 // Pictures: case 11's starts, what to lend, and case 12 on a picture of floats. The output row is shown after every call: it stays as it was where no row came.
+#![tactic(auto)]
+
 use morph::Kind;
 use plan::{Plan, Stage};
 

@@ -1,5 +1,6 @@
-#![tactic(auto)]
 // Readers of the job layout, group by group and whole.
+#![tactic(auto)]
+
 ghost use Rattle.std.specs.Prelude.{◌≡◌, [], ◌∷◌, ◌++◌, ◌+◌, ◌-◌, ◌≤◌, length, get_or, drop, replicate};
 ghost use Rattle.job_read.specs.Layout.{sample_bytes_of, low_high_of};
 ghost use Rattle.job_read.specs.Job.{plan_section_of, head_number, head_answered, head_section_number, rows_number, no_job, job_read_of};

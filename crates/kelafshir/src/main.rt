@@ -1,5 +1,6 @@
-#![tactic(auto)]
 // The program: the job that standard input has is run, and its answer goes to standard output.
+#![tactic(auto)]
+
 use program::{standard_input, standard_output};
 
 fn main() {

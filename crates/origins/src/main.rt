@@ -1,4 +1,3 @@
-#![tactic(auto)]
 // Calls of the picture filter, with origins asked for and without: for each command of standard input a line that tells what the call answered, and all of the memory and the rows after it. A command has
 // the state and the memory that the call is given, so that nothing is kept between two calls. tests/origins.py makes the commands, and says by document 01's and 02's definitions what the lines have to be.
 //
@@ -14,6 +13,8 @@
 //     50             words for the reader, in the place of the row
 //
 // These numbers are hexadecimal.
+#![tactic(auto)]
+
 use libc::STDIN_FILENO;
 
 mod begin; // begin.rt: starts and stops

@@ -1,5 +1,6 @@
-#![tactic(auto)]
 // Stage and plan records: judging them, and the memory and the look-ahead that a plan needs.
+#![tactic(auto)]
+
 ghost use Rattle.std.specs.Prelude.{◌≡◌, [], ◌∷◌, ◌+◌, ◌≤◌, ◌<◌};
 ghost use Rattle.morph.specs.Order.{reach_back, ahead_of};
 ghost use Rattle.morph.specs.Numbers.{extent_number};

@@ -1,5 +1,6 @@
-#![tactic(auto)]
 // A plan of 3 stages over a picture of grey bytes, step by step with its queues, calls out of turn, and states and records that rule 12 refuses. The output row is shown after every call: it stays as it was where no row came.
+#![tactic(auto)]
+
 use picture::State;
 use picture::grey::ReadOut;
 

@@ -1,5 +1,6 @@
-#![tactic(auto)]
 // The dark residue of a row: how much lighter a closing made it, added over the columns that the closing's windows do not reach past the picture's edge from.
+#![tactic(auto)]
+
 ghost use Rattle.std.specs.Prelude.{◌≡◌, false, ◌||◌, ◌+◌, ◌-◌, ◌≤◌, ◌<◌, ltb, length};
 ghost use Rattle.morph.specs.Numbers.{given};
 ghost use Rattle.residue.specs.Residue.{closing_number, residue_of, Answered};

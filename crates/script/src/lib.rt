@@ -1,5 +1,6 @@
-#![tactic(auto)]
 // How the test programs read their scripts: numbers, low byte first, and plans; and how much of an array is lent.
+#![tactic(auto)]
+
 ghost use Rattle.std.specs.Prelude.{◌≡◌, ◌≤◌, ◌<◌, length, take};
 
 use morph::{Kind, wide};

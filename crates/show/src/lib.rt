@@ -1,5 +1,6 @@
-#![tactic(auto)]
 // What the test programs write: words, numbers, floats by their bytes, and what a call answers.
+#![tactic(auto)]
+
 use libc::STDOUT_FILENO;
 use morph::Kind;
 use picture::{Answer, Ending, Started, State};

@@ -1,5 +1,6 @@
-#![tactic(auto)]
 // A sorting bench asks, row by row: is this picture's dark residue over a limit? It hands in the rows of the closed picture and of the input in pairs, from the top, and hears yes as soon as no row to come can change that; no once it has handed in all of them.
+#![tactic(auto)]
+
 ghost use Rattle.std.specs.Prelude.{◌≡◌, ◌+◌, ◌<◌, length};
 ghost use Rattle.worn.specs.Worn.{first_question, over_limit, say_of, is_broken_of, question_with, WornStart, WornPair};
 ghost use Rattle.worn.specs.Inner.{Awaits};
