@@ -1,7 +1,7 @@
 -- Where answers come from: the front of a queue is the latest position that gave the answer, and a picture's origin is the last pixel under the rectangle that has its value. By which idea: an entry
 -- stands while no later value equals or passes it.
 use mathlib.Core.Path.{◌≡◌, refl, sym, ap, ◌∙◌, subst}
-use mathlib.Core.Bool.{Bool, true, false, not, false≢true}
+use mathlib.Core.Bool.{Bool, true, false, false≢true}
 use mathlib.Core.List.{List, [], ◌∷◌}
 use mathlib.Core.Logic.{◌⊎◌, inl, inr, ⊎_elim}
 use Prim.Native.Nat.{ℕ, ◌+◌, ◌-◌, ◌<◌}
@@ -14,7 +14,7 @@ use Rattle.morph.specs.Order.{Order}
 use Rattle.morph.specs.Lists.{In}
 use Rattle.morph.specs.Line.{Entry, positioned, best, best_at, standing, queue, front}
 use Rattle.morph.specs.Picture.{Picture, pixel_at, Wide, Stage, Covers, apply_stage, across, column}
-use Rattle.morph.specs.Plan.{window, column_queue}
+use Rattle.morph.specs.Plan.{column_queue}
 use Rattle.morph.specs.Origin.{by_value, answer_at, LatestEntry, origin_row_of, origin_column, LastPixel}
 use Rattle.morph.proofs.Lists.{split, values, values_positioned, place_in, each_get_d, slice_in}
 use Rattle.morph.proofs.Line.{le_refl, best_greatest, over_best, queue_some, queue_sound, line_at, output_front}

@@ -2,7 +2,6 @@
 -- "Floats: accepted pixels are finite. A negative zero is read as positive zero, so output never holds a negative zero. Order is the floats' own comparison."
 use Rattle.std.specs.Prelude.{false, cond, eqb, pos, Float}
 use Rattle.std.specs.Float.{nan, inf, fin}
-use Rattle.std.specs.Float.Ieee.{le}
 use Rattle.morph.specs.Order.{Order}
 use Rattle.morph.specs.FloatLaws.{float_le, float_total, float_trans}
 
