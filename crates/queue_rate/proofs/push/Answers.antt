@@ -1,0 +1,23 @@
+-- `push` meets its contract, by the law of an entry stored behind those that stay.
+use mathlib.Core.Path.{◌≡◌}
+use native.Mathlib.Omega.{arith}
+use Rattle.sample.specs.Samples.{rates}
+use Rattle.queue.proofs.Cells.{cell_kept, cell_aged}
+use Rattle.queue_rate.proofs.push.Goals as goal
+
+pub returns-then-gone-eq0 : goal.returns-then-gone-eq0
+returns-then-gone-eq0 c =
+    let p = c.pop-kept in
+    let g = c.cell_goes-gone in
+    let a = c.any in
+    let z : g.result ≡ 0 = c.if-gone-eq0.true in
+    rw c.remainder.ensures
+    (cell_kept rates _ _ _ _ _ _ _ _ _ _ _ (omega arith) (omega arith) (p.ensures.0 _) p.ensures.1 g.ensures.0 p.ensures.2 a.ensures (omega arith) z)
+
+pub returns : goal.returns
+returns c =
+    let p = c.pop-kept in
+    let g = c.cell_goes-gone in
+    let a = c.any in
+    rw c.remainder.ensures
+    (cell_aged rates _ _ _ _ _ _ _ _ _ _ _ (omega arith) (omega arith) (p.ensures.0 _) p.ensures.1 g.ensures.0 p.ensures.2 a.ensures (omega arith) _ c.if-gone-eq0.false c.next.ensures.0)
