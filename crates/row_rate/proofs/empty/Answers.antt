@@ -2,11 +2,7 @@
 use mathlib.Core.Path.{refl, ap}
 use lib.ListN.{replicate}
 use Rattle.sample.proofs.Floats.{literal_zero}
-use Rattle.row_rate.proofs.empty.Statement.{statement}
-use Rattle.row_rate.proofs.empty.Tie as tie
+use Rattle.row_rate.proofs.empty.Goals as goal
 
-returns : tie.Need-returns
+pub returns : goal.returns
 returns c = (ap (replicate 63) literal_zero, refl, refl, refl)
-
-pub empty-spec : {M : Type 1} → statement M
-empty-spec = tie.close (tie.spec returns)
