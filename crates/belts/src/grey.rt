@@ -86,6 +86,7 @@ fn drained(rt: &impl Print, belt: Belt, c: Command) -> Belt {
 
 // Shows a place of a queue, and says whether it is there.
 fn place<'a>(
+    rt: &impl Print,
     state: State,
     stage: usize,
     column: usize,
@@ -116,6 +117,7 @@ fn place<'a>(
 
 // The places of a queue from one on, up to the first that is not there, at most so many.
 fn places<'a>(
+    rt: &impl Print,
     state: State,
     c: Command,
     values: &'a [u8],
@@ -125,7 +127,7 @@ fn places<'a>(
 ) {
     let mut left = c.x;
     let mut k = c.c;
-    while 0 < left && place(state, c.a, c.b, k, values, positions, starts, lengths) {
+    while 0 < left && place(rt, state, c.a, c.b, k, values, positions, starts, lengths) {
         left -= 1;
         k = belt::next(k);
     }
@@ -145,6 +147,7 @@ fn shown(rt: &impl Print, belt: Belt, c: Command) -> Belt {
     let l = of_bytes(lent.lengths, &lengths);
     show::text(rt, b"grey queue:");
     places(
+        rt,
         state,
         c,
         &values[..v],

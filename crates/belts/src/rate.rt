@@ -121,6 +121,7 @@ fn drained(rt: &impl Print, belt: Belt, c: Command) -> Belt {
 
 // Shows a place of a queue, and says whether it is there.
 fn place<'a>(
+    rt: &impl Print,
     state: State,
     stage: usize,
     column: usize,
@@ -151,6 +152,7 @@ fn place<'a>(
 
 // The places of a queue from one on, up to the first that is not there, at most so many.
 fn places<'a>(
+    rt: &impl Print,
     state: State,
     c: Command,
     values: &'a [f32],
@@ -160,7 +162,7 @@ fn places<'a>(
 ) {
     let mut left = c.x;
     let mut k = c.c;
-    while 0 < left && place(state, c.a, c.b, k, values, positions, starts, lengths) {
+    while 0 < left && place(rt, state, c.a, c.b, k, values, positions, starts, lengths) {
         left -= 1;
         k = belt::next(k);
     }
@@ -180,6 +182,7 @@ fn shown(rt: &impl Print, belt: Belt, c: Command) -> Belt {
     let l = of_bytes(lent.lengths, &lengths);
     show::text(rt, b"rate queue:");
     places(
+        rt,
         state,
         c,
         &values[..v],

@@ -31,6 +31,7 @@ fn called(
 
 // A step's line.
 fn tell<'a>(
+    rt: &impl Print,
     which: u8,
     stepped: Stepped,
     out: &'a [u8],
@@ -73,6 +74,7 @@ fn carry_out(
         rt, which, state, pixels, out, rows, from, values, positions, columns, starts, lengths,
     );
     tell(
+        rt,
         which,
         stepped,
         &out[..],
