@@ -44,14 +44,31 @@ static size_t padded(size_t length) { return length + 4 * task.extent + 1; }
 /* ---- the methods: each filters the task's picture into its output, or the output in place, which is then a copy of the
  * picture, and answers the comparisons that it counts */
 
+/* One step by the proved code: the row that is due comes out in the row's place. */
+static size_t step_by_proved(size_t step, void *row)
+{
+    return (task.is_float ? rt_rate_step : rt_grey_step)(DILATION, (uint8_t)task.extent, task.rows, step, task.values, cells(),
+                                                         task.positions, cells(), task.starts, task.width, task.lengths,
+                                                         task.width, row, task.width);
+}
+
+static void take_by_proved(const void *row, void *work)
+{
+    if (!(task.is_float ? rt_rate_taken : rt_grey_taken)(row, task.width, work, task.width)) exit(1);
+}
+
 static size_t by_proved(void)
 {
-    struct slice picture = {task.picture, pixels()}, out = {task.out, pixels()};
-    struct slice values = {task.values, cells()}, positions = {task.positions, cells()};
-    struct slice starts = {task.starts, task.width}, lengths = {task.lengths, task.width};
-    uint8_t extent = (uint8_t)task.extent;
-    return (task.is_float ? rt_rate_stage : rt_grey_stage)(DILATION, extent, extent, extent, extent, task.width, task.rows,
-                                                           &picture, &out, &values, &positions, &starts, &lengths);
+    static float room[MOST_WIDTH];
+    size_t comparisons = 0, bytes = task.width * sample_size(), ahead = task.extent;
+    memset(task.starts, 0, task.width);
+    memset(task.lengths, 0, task.width);
+    for (size_t t = 0; t < task.rows + ahead; t++) {
+        if (t < task.rows) take_by_proved((const char *)task.picture + t * bytes, room);
+        comparisons += step_by_proved(t, room);
+        if (ahead <= t) memcpy((char *)task.out + (t - ahead) * bytes, room, bytes);
+    }
+    return comparisons;
 }
 
 static size_t by_queue(void)
@@ -78,10 +95,8 @@ static size_t by_herk(void)
 
 static size_t whole_by_proved(void)
 {
-    struct slice picture = {task.out, pixels()}, row = {task.row, task.width};
-    uint8_t extent = (uint8_t)task.extent;
-    (task.is_float ? rt_rate_whole : rt_grey_whole)(DILATION, extent, extent, extent, extent, task.width, task.rows, &picture,
-                                                    &row);
+    (task.is_float ? rt_rate_whole : rt_grey_whole)(DILATION, (uint8_t)task.extent, task.width, task.rows, task.out, pixels(),
+                                                    task.row, task.width);
     return 0;
 }
 
@@ -107,26 +122,23 @@ static const struct method {
                            {"whole, proved", whole_by_proved, 0, 1},
                            {"proved", by_proved, 1, 0}};
 
-static int is_proved_there(void) { return rt_grey_stage && rt_rate_stage && rt_grey_whole && rt_rate_whole; }
+static int is_proved_there(void) { return rt_grey_step && rt_rate_step && rt_grey_whole && rt_rate_whole; }
 static int method_count(void) { return is_proved_there() ? MOST_METHODS : METHODS_IN_C; }
 
 /* A plan of equal stages, by the proved code, in place. */
 static void plan_by_proved(size_t stages)
 {
-    struct slice picture = {task.out, pixels()}, row = {task.row, task.width};
-    uint8_t extent = (uint8_t)task.extent;
-    if ((task.is_float ? rt_rate_plan : rt_grey_plan)(stages, extent, task.width, task.rows, &picture, &row) != 0) exit(1);
+    uint8_t number = (task.is_float ? rt_rate_plan : rt_grey_plan)(stages, (uint8_t)task.extent, task.width, task.rows, task.out,
+                                                                   pixels(), task.row, task.width);
+    if (number != 0) exit(1);
 }
 
 /* ---- one step */
 
 static void row_by_proved(size_t step, const uint8_t *row)
 {
-    struct slice in = {row, task.width}, out = {task.out, task.width}, values = {task.values, cells()};
-    struct slice positions = {task.positions, cells()}, starts = {task.starts, task.width}, lengths = {task.lengths, task.width};
-    uint8_t extent = (uint8_t)task.extent;
-    (task.is_float ? rt_rate_row : rt_grey_row)(DILATION, extent, extent, extent, extent, task.width, task.rows, step, &in, &out,
-                                                &values, &positions, &starts, &lengths);
+    take_by_proved(row, task.out);
+    step_by_proved(step, task.out);
 }
 
 static void row_by_queue(size_t step, const uint8_t *row)
@@ -322,7 +334,7 @@ static void all_latencies(void)
         draw(picture);
         for (size_t i = 0; i < 5; i++) {
             task.extent = windows[i] / 2;
-            if (task.is_float ? rt_rate_row : rt_grey_row) time_rows(name, "proved", row_by_proved);
+            if (is_proved_there()) time_rows(name, "proved", row_by_proved);
             time_rows(name, "queue in C", row_by_queue);
         }
     }

@@ -21,13 +21,13 @@ enum { BEFORE, ALL, BAND, OUTSIDE, IN_C, WAYS };
 
 static uint8_t closed[PIXELS], input[PIXELS];
 
-static size_t ask(int way, const struct slice *a, const struct slice *b) {
+static size_t ask(int way, const uint8_t *a, const uint8_t *b, size_t width) {
     switch (way) {
-    case BEFORE: return rt_row_before(a, b);
-    case ALL: return rt_row_now(0, 0, 0, 0, MIDDLE, ROWS, a, b);
-    case BAND: return rt_row_now(EXTENT, EXTENT, EXTENT, EXTENT, MIDDLE, ROWS, a, b);
-    case OUTSIDE: return rt_row_now(EXTENT, EXTENT, EXTENT, EXTENT, 0, ROWS, a, b);
-    default: return row_in_c(0, 0, 0, 0, MIDDLE, ROWS, a, b);
+    case BEFORE: return rt_row_before(a, width, b, width);
+    case ALL: return rt_row_now(0, 0, 0, 0, MIDDLE, ROWS, a, width, b, width);
+    case BAND: return rt_row_now(EXTENT, EXTENT, EXTENT, EXTENT, MIDDLE, ROWS, a, width, b, width);
+    case OUTSIDE: return rt_row_now(EXTENT, EXTENT, EXTENT, EXTENT, 0, ROWS, a, width, b, width);
+    default: return row_in_c(0, 0, 0, 0, MIDDLE, ROWS, a, width, b, width);
     }
 }
 
@@ -45,8 +45,8 @@ static size_t plain(int way, const uint8_t *a, const uint8_t *b, size_t width) {
 static void check(size_t width, size_t count) {
     for (int way = 0; way < WAYS; way++)
         for (size_t i = 0; i < count; i++) {
-            struct slice a = {closed + i * width, width}, b = {input + i * width, width};
-            if (ask(way, &a, &b) == plain(way, a.at, b.at, width)) continue;
+            const uint8_t *a = closed + i * width, *b = input + i * width;
+            if (ask(way, a, b, width) == plain(way, a, b, width)) continue;
             fprintf(stderr, "a wrong answer of way %d at width %zu\n", way, width);
             exit(1);
         }
@@ -70,8 +70,7 @@ static double turn(int way, size_t width, size_t count, size_t *sum) {
     *sum = 0;
     double begun = now();
     for (size_t call = 0, i = 0; call < CALLS; call++, i = i + 1 < count ? i + 1 : 0) {
-        struct slice a = {closed + i * width, width}, b = {input + i * width, width};
-        *sum += ask(way, &a, &b);
+        *sum += ask(way, closed + i * width, input + i * width, width);
     }
     return (now() - begun) / CALLS;
 }

@@ -5,13 +5,8 @@
 
 enum { REFUSED = 1000000000 };
 
-struct slice {
-    const void *at;
-    size_t length;
-};
-
-size_t rt_row_before(const struct slice *closed, const struct slice *input);
-size_t rt_row_now(uint8_t left, uint8_t right, uint8_t up, uint8_t down, size_t row, size_t rows, const struct slice *closed,
-                  const struct slice *input);
-size_t row_in_c(uint8_t left, uint8_t right, uint8_t up, uint8_t down, size_t row, size_t rows, const struct slice *closed,
-                const struct slice *input);
+size_t rt_row_before(const uint8_t *closed, size_t closed_length, const uint8_t *input, size_t input_length);
+size_t rt_row_now(uint8_t left, uint8_t right, uint8_t up, uint8_t down, size_t row, size_t rows, const uint8_t *closed,
+                  size_t closed_length, const uint8_t *input, size_t input_length);
+size_t row_in_c(uint8_t left, uint8_t right, uint8_t up, uint8_t down, size_t row, size_t rows, const uint8_t *closed,
+                size_t closed_length, const uint8_t *input, size_t input_length);

@@ -10,18 +10,16 @@
 # 15, so that 30 columns at each side are not counted. Needs the kit and a C compiler for this machine, cc.
 set -eu
 cd "$(dirname "$0")/.."
-kit=${RATTLE_HOME:-$(dirname "$(dirname "$(rt doc)")")}
-clang=$kit/on/$(uname -m)/toolchain/bin/clang
+kit=${RATTLE_HOME:-$(dirname "$(rt doc)")}
 made=target/dark
 mkdir -p $made/include
-cp bench/dark.txt $made/dark.rt
-bench/native.sh $made/dark.rt $made/proved.o 'row_before|row_now' $(sed -n '1s/^\/\/ crates: //p' bench/dark.txt)
+bench/native.sh bench/dark.txt $made/proved.a
 # The kit's compiler has no headers of its own.
 printf '#pragma once\ntypedef __UINT8_TYPE__ uint8_t;\ntypedef __UINT32_TYPE__ uint32_t;\n' >$made/include/stdint.h
 printf '#pragma once\ntypedef __SIZE_TYPE__ size_t;\n' >$made/include/stddef.h
-"$clang" --target="$(uname -m)-unknown-linux-gnu" -std=c99 -O3 -fPIC -ffreestanding -isystem $made/include -Wall -Wextra -Werror \
+"$kit/toolchain/bin/clang" --target=x86_64-unknown-linux-gnu -std=c99 -O3 -fPIC -ffreestanding -isystem $made/include -Wall -Wextra -Werror \
     -c bench/residue.c -o $made/residue.o
-cc -std=c99 -O2 -Wall -Wextra -o $made/dark bench/dark.c $made/residue.o $made/proved.o
+cc -std=c99 -O2 -Wall -Wextra -o $made/dark bench/dark.c $made/residue.o $made/proved.a
 : >$made/results
 process=0
 while [ $process -lt "${2:-7}" ]; do

@@ -14,18 +14,14 @@
 
 enum { WIDTH = 1024, ROWS = 1024, WINDOW = 63 };
 
-struct slice {
-    const void *at;
-    size_t length;
-};
-
-typedef size_t plain(uint8_t kind, uint8_t extent, size_t width, size_t rows, const struct slice *picture, const struct slice *out,
-                     const struct slice *values, const struct slice *positions, const struct slice *starts,
-                     const struct slice *lengths);
-typedef size_t asked(uint8_t kind, uint8_t extent, size_t width, size_t rows, const struct slice *picture, const struct slice *out,
-                     const struct slice *origin_rows, const struct slice *origin_columns, const struct slice *values,
-                     const struct slice *positions, const struct slice *columns, const struct slice *starts,
-                     const struct slice *lengths);
+/* What origins.txt exports: a block is a pointer and then its length. */
+typedef size_t plain(uint8_t kind, uint8_t extent, size_t width, size_t rows, const void *picture, size_t pixels, void *out,
+                     size_t out_pixels, void *values, size_t cells, uint8_t *positions, size_t places, uint8_t *starts,
+                     size_t start_count, uint8_t *lengths, size_t length_count);
+typedef size_t asked(uint8_t kind, uint8_t extent, size_t width, size_t rows, const void *picture, size_t pixels, void *out,
+                     size_t out_pixels, size_t *origin_rows, size_t row_count, uint16_t *origin_columns, size_t column_count,
+                     void *values, size_t cells, uint8_t *positions, size_t places, uint16_t *columns, size_t column_places,
+                     uint8_t *starts, size_t start_count, uint8_t *lengths, size_t length_count);
 plain rt_grey_plain, rt_rate_plain;
 asked rt_grey_asked, rt_rate_asked;
 
@@ -67,15 +63,14 @@ static void draw(int smooth) {
 
 static size_t run(int floats, int ask, uint8_t extent) {
     size_t cells = (size_t)WIDTH * (2u * extent + 1);
-    struct slice picture = {floats ? (void *)rate : (void *)grey, WIDTH * ROWS};
-    struct slice out = {floats ? (void *)rate_out[ask] : (void *)grey_out[ask], WIDTH * ROWS};
-    struct slice values = {floats ? (void *)rate_values : (void *)grey_values, cells}, places = {positions, cells};
-    struct slice from = {columns, cells}, first = {starts, WIDTH}, count = {lengths, WIDTH};
-    struct slice rows = {origin_rows, WIDTH}, cols = {origin_columns, WIDTH};
+    const void *picture = floats ? (void *)rate : (void *)grey;
+    void *out = floats ? (void *)rate_out[ask] : (void *)grey_out[ask], *values = floats ? (void *)rate_values : (void *)grey_values;
     if (ask)
-        return (floats ? rt_rate_asked : rt_grey_asked)(1, extent, WIDTH, ROWS, &picture, &out, &rows, &cols, &values, &places, &from,
-                                                        &first, &count);
-    return (floats ? rt_rate_plain : rt_grey_plain)(1, extent, WIDTH, ROWS, &picture, &out, &values, &places, &first, &count);
+        return (floats ? rt_rate_asked : rt_grey_asked)(1, extent, WIDTH, ROWS, picture, WIDTH * ROWS, out, WIDTH * ROWS, origin_rows,
+                                                        WIDTH, origin_columns, WIDTH, values, cells, positions, cells, columns, cells,
+                                                        starts, WIDTH, lengths, WIDTH);
+    return (floats ? rt_rate_plain : rt_grey_plain)(1, extent, WIDTH, ROWS, picture, WIDTH * ROWS, out, WIDTH * ROWS, values, cells,
+                                                    positions, cells, starts, WIDTH, lengths, WIDTH);
 }
 
 static double value(int floats, size_t y, size_t x) { return floats ? (double)rate[y * WIDTH + x] : (double)grey[y * WIDTH + x]; }

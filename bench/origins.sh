@@ -10,9 +10,8 @@ set -eu
 cd "$(dirname "$0")/.."
 made=target/origins
 mkdir -p $made
-cp bench/origins.txt $made/origins.rt
-bench/native.sh $made/origins.rt $made/origins.o 'grey_plain|grey_asked|rate_plain|rate_asked' $(sed -n '1s/^\/\/ crates: //p' bench/origins.txt)
-cc -std=c99 -O2 -Wall -Wextra -o $made/origins bench/origins.c $made/origins.o
+bench/native.sh bench/origins.txt $made/proved.a
+cc -std=c99 -O2 -Wall -Wextra -o $made/origins bench/origins.c $made/proved.a
 : >$made/results
 process=0
 while [ $process -lt "${2:-7}" ]; do

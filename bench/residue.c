@@ -5,13 +5,12 @@
 static size_t refused(size_t number) { return REFUSED + number; }
 
 size_t row_in_c(uint8_t left, uint8_t right, uint8_t up, uint8_t down, size_t row, size_t rows,
-                const struct slice *closed_row, const struct slice *input_row)
+                const uint8_t *closed, size_t width, const uint8_t *input, size_t input_length)
 {
-    const uint8_t *closed = closed_row->at, *input = input_row->at;
-    size_t width = closed_row->length, reach = (size_t)left + right, high = (size_t)up + down;
+    size_t reach = (size_t)left + right, high = (size_t)up + down;
     if (left > 31 || right > 31 || up > 31 || down > 31) return refused(3);
     if (width == 0 || width > 4096 || rows == 0 || rows > 65535 || row >= rows) return refused(4);
-    if (input_row->length != width) return refused(7);
+    if (input_length != width) return refused(7);
     if (width <= 2 * reach || rows <= 2 * high) return refused(21);
     if (row < high || rows <= row + high) return 0;
     _Bool negative = 0;

@@ -8,26 +8,22 @@
 # Needs the kit and a C compiler for this machine, cc. The proved code is measured where bench/main.txt is there.
 set -eu
 cd "$(dirname "$0")/.."
-kit=${RATTLE_HOME:-$(dirname "$(dirname "$(rt doc)")")}
-clang=$kit/on/$(uname -m)/toolchain/bin/clang
+kit=${RATTLE_HOME:-$(dirname "$(rt doc)")}
 made=target/bench
 mkdir -p $made/include $made/pictures
 
-# (p) The proved code: main.txt, whose first line names the crates that it uses. (Its name is no .rt, for it is proved
-# by nobody: it only calls what is.)
+# (p) The proved code: main.txt, whose first line names the crates that it uses.
 proved=
 if [ -f bench/main.txt ]; then
-    cp bench/main.txt $made/main.rt
-    crates=$(sed -n '1s/^\/\/ crates: //p' bench/main.txt)
-    entries='grey_stage|rate_stage|grey_row|rate_row|grey_whole|rate_whole|grey_plan|rate_plan'
-    bench/native.sh $made/main.rt $made/proved.o "$entries" $crates
-    proved=$made/proved.o
+    bench/native.sh bench/main.txt $made/proved.a
+    # What is named weakly is taken from an archive only where all is.
+    proved="-Wl,--whole-archive $made/proved.a -Wl,--no-whole-archive"
 fi
 
 # (a), (b), (w) The methods in C, by the kit's compiler, which has no headers of its own.
 printf '#pragma once\ntypedef __UINT8_TYPE__ uint8_t;\ntypedef __UINT16_TYPE__ uint16_t;\ntypedef __UINT32_TYPE__ uint32_t;\n' >$made/include/stdint.h
 printf '#pragma once\ntypedef __SIZE_TYPE__ size_t;\n' >$made/include/stddef.h
-"$clang" --target="$(uname -m)-unknown-linux-gnu" -std=c99 -O3 -fPIC -ffreestanding -isystem $made/include -Wall -Wextra -Werror \
+"$kit/toolchain/bin/clang" --target=x86_64-unknown-linux-gnu -std=c99 -O3 -fPIC -ffreestanding -isystem $made/include -Wall -Wextra -Werror \
     -c bench/methods.c -o $made/methods.o
 cc -std=c99 -O2 -Wall -Wextra -Ibench -o $made/bench bench/bench.c $made/methods.o $proved -lm
 

@@ -82,11 +82,11 @@ static size_t pair(struct kelafshir_question *question, const struct rows *p, si
 
 uint8_t rt_row_first(uint8_t left, uint8_t right, uint8_t up, uint8_t down, size_t width, size_t rows, uint64_t limit,
                      struct kelafshir_question *question);
-size_t rt_row_asked(struct kelafshir_question *question, const struct slice *closed, const struct slice *input);
+size_t rt_row_asked(struct kelafshir_question *question, const uint8_t *closed, size_t closed_length, const uint8_t *input,
+                    size_t input_length);
 
 static size_t alone(const struct rows *p, size_t i, size_t row, size_t rows) {
-    struct slice a = {p->closed + i * p->width, p->width}, b = {p->input + i * p->width, p->width};
-    return rt_row_now(0, 0, 0, 0, row, rows, &a, &b);
+    return rt_row_now(0, 0, 0, 0, row, rows, p->closed + i * p->width, p->width, p->input + i * p->width, p->width);
 }
 
 static struct kelafshir_question first(size_t width, size_t rows, uint64_t limit) {
@@ -96,8 +96,7 @@ static struct kelafshir_question first(size_t width, size_t rows, uint64_t limit
 }
 
 static size_t pair(struct kelafshir_question *question, const struct rows *p, size_t i) {
-    struct slice a = {p->closed + i * p->width, p->width}, b = {p->input + i * p->width, p->width};
-    return rt_row_asked(question, &a, &b);
+    return rt_row_asked(question, p->closed + i * p->width, p->width, p->input + i * p->width, p->width);
 }
 
 #endif

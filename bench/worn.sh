@@ -10,17 +10,16 @@
 # four places within 64 bytes, a process each in turn, as that moves the times; the last two numbers are the ratio where it
 # is least and where it is most. The rows after a yes lie in memory that the process may not read. Every answer is compared
 # with a plain loop's, or it stops. Needs the kit and a C compiler for this machine, cc; the archive is what
-# `rt staticlib firmware` wrote for x86-64.
+# `sh firmware/archive.sh` wrote.
 set -eu
 cd "$(dirname "$0")/.."
 made=target/worn
-proved=$made/proved.o calls=
+proved=$made/proved.a calls=
 mkdir -p $made
 if [ "${3:-}" = archive ]; then
     proved=target/staticlib/libfirmware.a calls=-DFROM_C
 else
-    cp bench/worn.txt $made/pairs.rt
-    bench/native.sh $made/pairs.rt $proved 'row_now|row_first|row_asked' $(sed -n '1s/^\/\/ crates: //p' bench/worn.txt)
+    bench/native.sh bench/worn.txt $proved
 fi
 for place in 0 16 32 48; do
     printf '.text\n.balign 64\n.fill %d\n.section .note.GNU-stack,"",%%progbits\n' $((place + 64)) >$made/place.s

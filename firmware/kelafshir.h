@@ -2,7 +2,7 @@
  * applied to whole pictures, the dark residue of a row, and the question whether a picture's residue is over a limit, for
  * C99 and C++.
  *
- * `rt staticlib firmware` proves them all and writes target/staticlib/libfirmware.a for x86-64 Linux; link that. None keeps
+ * `sh firmware/archive.sh` proves them all and writes target/staticlib/libfirmware.a for x86-64 Linux; link that. None keeps
  * anything between calls or takes memory but of the stack, a job about 100 KB and the others a little, so calls may run
  * side by side. Of the C library they may need memcpy and memset. Floats are compared in the float environment that a C
  * program starts with: one that has the processor take subnormal numbers for zeros may get zeros for them.

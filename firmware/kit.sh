@@ -1,8 +1,19 @@
-# What firmware/test.sh, tests/memory.sh, tests/whole.sh, tests/dark.sh and tests/worn.sh share: C with the kit's own compiler, over the archive. Read in with `.` at the top.
-kit=${RATTLE_HOME:-$(dirname "$(dirname "$(rt doc)")")}
-own=$kit/on/$(uname -m)
+# What firmware/archive.sh, firmware/test.sh and the scripts of tests/ share: what the kit proves and builds, and C with the kit's own compiler over the archive. Read in with `.` at the top.
+kit=${RATTLE_HOME:-$(dirname "$(rt doc)")}
 made=target/firmware
 mkdir -p $made/include
+
+archive() { # proves and builds the archive: target/staticlib/libfirmware.a, for every x86-64 processor
+    (cd crates/firmware_c && "$kit/bin/rt" lib --cpu=x86-64) </dev/null >$made/log 2>&1 || { cat $made/log; exit 1; }
+    mkdir -p target/staticlib
+    cp crates/firmware_c/out/libfirmware_c.a target/staticlib/libfirmware.a
+}
+built() { # NAME: proves and builds the program of crates/NAME: target/bin/NAME
+    # The kit runs what it has built, here on nothing.
+    (cd "crates/$1" && "$kit/bin/rt" run) </dev/null >$made/log 2>&1 || grep -q "^rt: running out/$1;" $made/log || { cat $made/log; exit 1; }
+    mkdir -p target/bin
+    cp "crates/$1/out/$1" "target/bin/$1"
+}
 
 # The kit has no C headers: these declare what the files here use, and nothing else.
 cat >$made/include/stdint.h <<'H'
@@ -30,18 +41,12 @@ H
 
 compile() { # LANGUAGE STANDARD FILE WORDS..
     language=$1 standard=$2 file=$3; shift 3
-    "$own/toolchain/bin/clang" --target=x86_64-linux-gnu -x "$language" "-std=$standard" -ffreestanding -isystem $made/include \
+    "$kit/toolchain/bin/clang" --target=x86_64-linux-gnu -x "$language" "-std=$standard" -ffreestanding -isystem $made/include \
         -fPIE -O2 -pedantic -Wall -Wextra -Werror -fsanitize=undefined -fsanitize-trap=undefined "$file" "$@"
-}
-# What stands before a program's name where it is run.
-emulated="$kit/toolchain/lib/ld-linux-x86-64.so.2 --library-path $kit/toolchain/lib"
-[ ! -x "$own/toolchain/bin/qemu-x86_64" ] || emulated="$own/toolchain/bin/qemu-x86_64 $emulated"
-run() { # PROGRAM WORDS..
-    $emulated "$@"
 }
 program() { # NAME FILE: builds $made/NAME over the archive
     compile c c99 "$2" -Ifirmware -c -o $made/$1.o
-    "$own/bin/rattle-link" --target x86_64-unknown-linux-gnu --toolchain "$own/toolchain" -o $made/$1 $made/$1.o \
+    "$kit/bin/rattle-link" --target x86_64-unknown-linux-gnu --toolchain "$kit/toolchain" -o $made/$1 $made/$1.o \
         target/staticlib/libfirmware.a 2>>$made/log
 }
 guarded() { # WHAT COMMAND..: the command does WHAT, and has to die of it: of the fault SIGSEGV, which is status 139, and of nothing else

@@ -1,8 +1,8 @@
 #!/bin/sh
 # All the tests that a contributor runs, one part after the other: sh tests/all.sh
 #
-# Each part's last line is shown under its name. A part ends with 'N passed, M failed', and its counts are added up; rt check has no such
-# line and counts as one. A part that ends otherwise, or with a status other than 0, counts as failed, and all that it said is shown.
+# Each part's last line is shown under its name. A part ends with 'N passed, M failed', and its counts are added up; rt all check has no
+# such line and counts as one. A part that ends otherwise, or with a status other than 0, counts as failed, and all that it said is shown.
 # The last line is 'N passed, M failed', and the status is 0 where nothing failed.
 set -u
 cd "$(dirname "$0")/.." || exit 1
@@ -36,7 +36,8 @@ counted() { # COMMAND..: a part that ends with its counts
     else add "${counts% *}" "${counts#* }"; fi
 }
 
-proved rt check
+proved rt all check
+counted sh tests/programs.sh
 counted python3 tests/check.py --self
 counted python3 tests/check.py 300
 counted sh firmware/test.sh

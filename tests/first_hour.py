@@ -108,7 +108,7 @@ def without_the_kit_it_says_so():
 @test
 def the_kit_is_found_by_its_folder_alone():
     guide = subprocess.run(['rt', 'doc'], stdout=subprocess.PIPE, check=True).stdout.decode().strip()
-    kit = pathlib.Path(guide).parent.parent
+    kit = pathlib.Path(guide).parent
     expect_answer(run(env={**os.environ, 'PATH': path_without_rt(), 'RATTLE_HOME': str(kit)}))
 
 
@@ -395,9 +395,14 @@ def the_program_ends_with_the_script():
 # ---- around a build: a copy of the script, a stand-in for the kit
 
 class Stand:
-    """A checkout of three crates and a kit whose `rt check` takes a while and whose program writes the job as it came."""
+    """A checkout of three crates and a kit whose `rt run` takes a while and whose program writes the job as it came."""
 
-    LINES = 'rt: low proved (1 s)', 'a note of the prover', 'rt: middle proved (1 s)', 'rt: kelafshir proved (1 s)', 'rt: ok, 3 crates proved'
+    PROVED = 'crate low: modules loaded=0 checked=3\nlogic=proved functions=1', 'a note of the prover'
+    LINES = PROVED + (
+        'crate middle: modules loaded=0 checked=3\nlogic=proved functions=1', 'crate kelafshir: modules loaded=0 checked=3\nlogic=proved functions=1',
+        'rt: running out/kelafshir; to give it other input, run that file yourself')
+    FAILED = PROVED + (
+        'fn middle::f: no proof: expected answers in ./proofs/f/Answers.antt', 'logic=not-proved', 'rt: the library middle did not build, so nothing above it was checked')
 
     def __init__(self, here, seconds=0.0, is_proved=True):
         self.top, self.kit, self.count = here / 'a checkout', here / 'kit', here / 'builds'
@@ -407,11 +412,11 @@ class Stand:
         (self.top / 'crates.txt').write_text('# layers\nlow:\nmiddle: low\nother: middle\nkelafshir: middle io\n')
         shutil.copy(KELAFSHIR, self.top)
         self.write('KIT-ID', 'kit 1\n')
-        self.write('toolchain/lib/ld-linux-x86-64.so.2', '#!/bin/sh\nexec cat\n')
-        lines = self.LINES if is_proved else self.LINES[:2] + ('rt: middle NOT PROVED (exit 1, 1 s)', 'rt: FAILED: middle')
-        self.write('bin/rt', '#!/bin/sh\necho x >>"%s"\nmkdir -p target/bin\n' % self.count +
-                   ''.join("echo '%s'\nsleep %f\n" % (line, seconds / len(lines)) for line in lines) +
-                   'echo x >target/bin/kelafshir\nchmod +x target/bin/kelafshir\nexit %d\n' % (not is_proved))
+        lines = self.LINES if is_proved else self.FAILED
+        # The program that is run is the one that was built: what it writes is no job's answer.
+        self.write('bin/rt', '#!/bin/sh\necho x >>"%s"\nmkdir -p out\n' % self.count +
+                   ''.join("echo '%s' >&2\nsleep %f\n" % (line, seconds / len(lines)) for line in lines) +
+                   "printf '#!/bin/sh\\nexec cat\\n' >out/kelafshir\nchmod +x out/kelafshir\necho 'an answer to no job'\nexit %d\n" % (not is_proved))
 
     def write(self, name, text):
         (self.kit / name).parent.mkdir(parents=True, exist_ok=True)
@@ -419,7 +424,6 @@ class Stand:
         (self.kit / name).chmod(0o755)
 
     def how(self):
-        # The stand-in has no folder on/, so no emulator is used.
         return {'program': self.top / 'kelafshir', 'env': {**os.environ, 'RATTLE_HOME': str(self.kit)}}
 
     def builds(self):
@@ -467,6 +471,19 @@ def a_change_is_built():
 
 
 @test
+def what_the_kit_writes_is_no_change():
+    with folder() as here:
+        stand = Stand(here)
+        stand.run()
+        time.sleep(0.05)
+        for crate in 'low', 'other', 'kelafshir':
+            out = stand.top / 'crates' / crate / 'out' / 'kept'
+            out.mkdir(parents=True)
+            (out / 'made.rt').write_text('')
+        expect(stand.run() == (0, b'a job', '') and stand.builds() == 1, stand.builds())
+
+
+@test
 def a_change_during_a_build_is_built_too():
     with folder() as here:
         stand = Stand(here, seconds=1)
@@ -505,7 +522,7 @@ def a_build_that_fails_is_told():
     with folder() as here:
         stand = Stand(here, is_proved=False)
         for _ in range(2):
-            expect_failure(stand.run(), UNBUILT, 'NOT PROVED', 'not built', 'target/run/log')
+            expect_failure(stand.run(), UNBUILT, 'no proof', 'did not build', 'not built', 'target/run/log')
 
 
 @test

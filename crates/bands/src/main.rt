@@ -3,20 +3,21 @@
 
 use residue::Residue;
 
-fn said(answer: Residue) {
+fn said(rt: &impl Print, answer: Residue) {
     match answer {
         Residue::Sum(sum) => {
-            show::text(b"sum ");
-            show::number(sum);
+            show::text(rt, b"sum ");
+            show::number(rt, sum);
         }
         Residue::Refused(number) => {
-            show::text(b"refused ");
-            show::byte(number);
+            show::text(rt, b"refused ");
+            show::byte(rt, number);
         }
     }
 }
 
 fn ask(
+    rt: &impl Print,
     name: &[u8],
     left: u8,
     right: u8,
@@ -27,65 +28,105 @@ fn ask(
     closed: &[u8],
     input: &[u8],
 ) {
-    show::text(name);
-    show::text(b": ");
-    said(residue::dark(left, right, up, down, row, rows, closed, input));
+    show::text(rt, name);
+    show::text(rt, b": ");
+    said(
+        rt,
+        residue::dark(left, right, up, down, row, rows, closed, input),
+    );
     let mut sum = 77;
     let number = firmware::kelafshir_dark(
         left, right, up, down, row, rows, closed, input, &mut sum,
     );
-    show::text(b"; from C ");
-    show::byte(number);
-    show::text(b" and ");
-    show::number(sum as usize);
-    show::text(b"\n");
+    show::text(rt, b"; from C ");
+    show::byte(rt, number);
+    show::text(rt, b" and ");
+    show::number(rt, sum as usize);
+    show::text(rt, b"\n");
 }
 
 // With up 1 and down 0.
-fn dark(name: &[u8], left: u8, right: u8, row: usize, rows: usize, closed: &[u8], input: &[u8]) {
-    ask(name, left, right, 1, 0, row, rows, closed, input);
+fn dark(
+    rt: &impl Print,
+    name: &[u8],
+    left: u8,
+    right: u8,
+    row: usize,
+    rows: usize,
+    closed: &[u8],
+    input: &[u8],
+) {
+    ask(rt, name, left, right, 1, 0, row, rows, closed, input);
 }
 
 // Rows of the picture of 5 rows of 7 columns, and where there is no such row.
-fn rows() {
+fn rows(rt: &impl Print) {
     let closed = [9u8; 7];
     let input = [1u8, 2, 3, 4, 5, 6, 7];
-    dark(b"row 0 of 5", 1, 1, 0, 5, &closed, &input);
-    dark(b"row 1 of 5", 1, 1, 1, 5, &closed, &input);
-    dark(b"row 2 of 5", 1, 1, 2, 5, &closed, &input);
-    dark(b"row 3 of 5", 1, 1, 3, 5, &closed, &input);
-    dark(b"row 4 of 5", 1, 1, 4, 5, &closed, &input);
-    dark(b"row 5 of 5", 1, 1, 5, 5, &closed, &input);
-    dark(b"row 0 of 0", 1, 1, 0, 0, &closed, &input);
-    dark(b"row 0 of 65536", 1, 1, 0, 65536, &closed, &input);
-    dark(b"row 0 of 2", 1, 1, 0, 2, &closed, &input);
-    dark(b"row 1 of 2", 1, 1, 1, 2, &closed, &input);
-    dark(b"row 1 of 3", 1, 1, 1, 3, &closed, &input);
-    dark(b"row 65533 of 65535", 1, 1, 65533, 65535, &closed, &input);
-    dark(b"row 65534 of 65535", 1, 1, 65534, 65535, &closed, &input);
+    dark(rt, b"row 0 of 5", 1, 1, 0, 5, &closed, &input);
+    dark(rt, b"row 1 of 5", 1, 1, 1, 5, &closed, &input);
+    dark(rt, b"row 2 of 5", 1, 1, 2, 5, &closed, &input);
+    dark(rt, b"row 3 of 5", 1, 1, 3, 5, &closed, &input);
+    dark(rt, b"row 4 of 5", 1, 1, 4, 5, &closed, &input);
+    dark(rt, b"row 5 of 5", 1, 1, 5, 5, &closed, &input);
+    dark(rt, b"row 0 of 0", 1, 1, 0, 0, &closed, &input);
+    dark(rt, b"row 0 of 65536", 1, 1, 0, 65536, &closed, &input);
+    dark(rt, b"row 0 of 2", 1, 1, 0, 2, &closed, &input);
+    dark(rt, b"row 1 of 2", 1, 1, 1, 2, &closed, &input);
+    dark(rt, b"row 1 of 3", 1, 1, 1, 3, &closed, &input);
+    dark(
+        rt,
+        b"row 65533 of 65535",
+        1,
+        1,
+        65533,
+        65535,
+        &closed,
+        &input,
+    );
+    dark(
+        rt,
+        b"row 65534 of 65535",
+        1,
+        1,
+        65534,
+        65535,
+        &closed,
+        &input,
+    );
 }
 
 // A pixel of the input that is lighter than the closed one.
-fn lighter() {
+fn lighter(rt: &impl Print) {
     let closed = [9u8; 7];
     let first = [10u8, 2, 3, 4, 5, 6, 7];
     let middle = [1u8, 2, 3, 10, 5, 6, 7];
     let last = [1u8, 2, 3, 4, 10, 6, 7];
     let next = [1u8, 2, 3, 4, 5, 10, 7];
-    dark(b"column 0 lighter", 1, 1, 2, 5, &closed, &first);
-    dark(b"column 3 lighter", 1, 1, 2, 5, &closed, &middle);
-    dark(b"column 4 lighter", 1, 1, 2, 5, &closed, &last);
-    dark(b"column 5 lighter", 1, 1, 2, 5, &closed, &next);
-    dark(b"column 3 of row 0 lighter", 1, 1, 0, 5, &closed, &middle);
+    dark(rt, b"column 0 lighter", 1, 1, 2, 5, &closed, &first);
+    dark(rt, b"column 3 lighter", 1, 1, 2, 5, &closed, &middle);
+    dark(rt, b"column 4 lighter", 1, 1, 2, 5, &closed, &last);
+    dark(rt, b"column 5 lighter", 1, 1, 2, 5, &closed, &next);
+    dark(
+        rt,
+        b"column 3 of row 0 lighter",
+        1,
+        1,
+        0,
+        5,
+        &closed,
+        &middle,
+    );
 }
 
-fn widths() {
+fn widths(rt: &impl Print) {
     let closed = [9u8; 7];
     let input = [1u8, 2, 3, 4, 5, 6, 7];
-    dark(b"4 columns", 1, 1, 2, 5, &closed[..4], &input[..4]);
-    dark(b"5 columns", 1, 1, 2, 5, &closed[..5], &input[..5]);
-    dark(b"no column", 0, 0, 2, 5, &closed[..0], &input[..0]);
+    dark(rt, b"4 columns", 1, 1, 2, 5, &closed[..4], &input[..4]);
+    dark(rt, b"5 columns", 1, 1, 2, 5, &closed[..5], &input[..5]);
+    dark(rt, b"no column", 0, 0, 2, 5, &closed[..0], &input[..0]);
     dark(
+        rt,
         b"1 column, all of it",
         0,
         0,
@@ -96,12 +137,22 @@ fn widths() {
     );
     let wide = [9u8; 4097];
     let dim = [0u8; 4097];
-    dark(b"124 columns", 31, 31, 1, 3, &wide[..124], &dim[..124]);
-    dark(b"125 columns", 31, 31, 1, 3, &wide[..125], &dim[..125]);
-    dark(b"4096 columns", 31, 31, 1, 3, &wide[..4096], &dim[..4096]);
-    dark(b"4097 columns", 31, 31, 1, 3, &wide, &dim);
+    dark(rt, b"124 columns", 31, 31, 1, 3, &wide[..124], &dim[..124]);
+    dark(rt, b"125 columns", 31, 31, 1, 3, &wide[..125], &dim[..125]);
+    dark(
+        rt,
+        b"4096 columns",
+        31,
+        31,
+        1,
+        3,
+        &wide[..4096],
+        &dim[..4096],
+    );
+    dark(rt, b"4097 columns", 31, 31, 1, 3, &wide, &dim);
     let light = [255u8; 4096];
     dark(
+        rt,
         b"4096 columns, all of them",
         0,
         0,
@@ -113,24 +164,25 @@ fn widths() {
 }
 
 // Four extents that differ: columns 2 to 4, and rows 2 and 3 of 6.
-fn sides() {
+fn sides(rt: &impl Print) {
     let closed = [9u8; 7];
     let input = [1u8, 2, 3, 4, 5, 6, 7];
-    ask(b"row 1 of 6, down 2", 0, 2, 0, 2, 1, 6, &closed, &input);
-    ask(b"row 2 of 6, down 2", 0, 2, 0, 2, 2, 6, &closed, &input);
-    ask(b"row 3 of 6, up 2", 2, 0, 2, 0, 3, 6, &closed, &input);
-    ask(b"row 4 of 6, up 2", 2, 0, 2, 0, 4, 6, &closed, &input);
-    ask(b"right 32", 0, 32, 0, 0, 0, 5, &closed, &input);
-    ask(b"up 32", 0, 0, 32, 0, 0, 5, &closed, &input);
-    ask(b"down 32", 0, 0, 0, 32, 0, 5, &closed, &input);
+    ask(rt, b"row 1 of 6, down 2", 0, 2, 0, 2, 1, 6, &closed, &input);
+    ask(rt, b"row 2 of 6, down 2", 0, 2, 0, 2, 2, 6, &closed, &input);
+    ask(rt, b"row 3 of 6, up 2", 2, 0, 2, 0, 3, 6, &closed, &input);
+    ask(rt, b"row 4 of 6, up 2", 2, 0, 2, 0, 4, 6, &closed, &input);
+    ask(rt, b"right 32", 0, 32, 0, 0, 0, 5, &closed, &input);
+    ask(rt, b"up 32", 0, 0, 32, 0, 0, 5, &closed, &input);
+    ask(rt, b"down 32", 0, 0, 0, 32, 0, 5, &closed, &input);
 }
 
 // Two at once.
-fn orders() {
+fn orders(rt: &impl Print) {
     let closed = [9u8; 7];
     let input = [1u8, 2, 10, 4, 5, 6, 7];
-    dark(b"left 32 before no rows", 32, 1, 0, 0, &closed, &input);
+    dark(rt, b"left 32 before no rows", 32, 1, 0, 0, &closed, &input);
     dark(
+        rt,
         b"right 32 before no columns",
         1,
         32,
@@ -140,6 +192,7 @@ fn orders() {
         &input[..0],
     );
     dark(
+        rt,
         b"row 5 of 5 before 6 columns",
         1,
         1,
@@ -149,6 +202,7 @@ fn orders() {
         &input[..6],
     );
     dark(
+        rt,
         b"3 columns before an empty band",
         1,
         1,
@@ -158,6 +212,7 @@ fn orders() {
         &input[..3],
     );
     dark(
+        rt,
         b"an empty band before a lighter column",
         1,
         1,
@@ -167,6 +222,7 @@ fn orders() {
         &input[..4],
     );
     dark(
+        rt,
         b"6 columns before a lighter one",
         1,
         1,
@@ -177,10 +233,10 @@ fn orders() {
     );
 }
 
-fn main() {
-    rows();
-    lighter();
-    widths();
-    sides();
-    orders();
+fn main(rt: HostRuntime) {
+    rows(&rt);
+    lighter(&rt);
+    widths(&rt);
+    sides(&rt);
+    orders(&rt);
 }

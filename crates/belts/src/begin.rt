@@ -17,18 +17,18 @@ fn started(c: Command, given: &[u8], starts: &mut [u8], lengths: &mut [u8]) -> S
     }
 }
 
-fn begun(belt: Belt, memory: Memory, r: Started) -> Belt {
-    show::text(b"start: ");
-    show::byte(r.number);
+fn begun(rt: &impl Print, belt: Belt, memory: Memory, r: Started) -> Belt {
+    show::text(rt, b"start: ");
+    show::byte(rt, r.number);
     let state = r.state;
-    show::state(state);
+    show::state(rt, state);
     if r.number == 0 {
         return belt::now(belt, memory, state, belt::REST);
     }
     belt::now(belt, memory, state, belt::ALL)
 }
 
-fn start_with(belt: Belt, c: Command, given: &[u8]) -> Belt {
+fn start_with(rt: &impl Print, belt: Belt, c: Command, given: &[u8]) -> Belt {
     let m = belt.memory;
     let lent = belt.lent;
     let mut starts = m.starts;
@@ -39,23 +39,23 @@ fn start_with(belt: Belt, c: Command, given: &[u8]) -> Belt {
     let mut next = m;
     next.starts = starts;
     next.lengths = lengths;
-    begun(belt, next, r)
+    begun(rt, belt, next, r)
 }
 
-fn end(belt: Belt) -> Belt {
+fn end(rt: &impl Print, belt: Belt) -> Belt {
     let before = belt.state;
     let m = belt.memory;
     let r = stop(before);
-    show::text(b"stop: ");
-    show::byte(r.number);
+    show::text(rt, b"stop: ");
+    show::byte(rt, r.number);
     let state = r.state;
-    show::state(state);
+    show::state(rt, state);
     belt::now(belt, m, state, belt::ALL)
 }
 
-pub fn call(belt: Belt, c: Command, given: &[u8]) -> Belt {
+pub fn call(rt: &impl Print, belt: Belt, c: Command, given: &[u8]) -> Belt {
     if c.op % 16 == 4 {
-        return end(belt);
+        return end(rt, belt);
     }
-    start_with(belt, c, given)
+    start_with(rt, belt, c, given)
 }

@@ -165,9 +165,9 @@ fn leaves_of(a: Answer) -> u8 {
 }
 
 // A step's answer, and the run after it.
-pub fn stepped(belt: Belt, memory: Memory, s: Stepped) -> Belt {
+pub fn stepped(rt: &impl Print, belt: Belt, memory: Memory, s: Stepped) -> Belt {
     let a = s.answer;
-    show::answer(a);
+    show::answer(rt, a);
     let state = s.state;
     now(belt, memory, state, leaves_of(a))
 }

@@ -4,19 +4,19 @@ use crate::belt::{Belt, Edge, Lent};
 use crate::command::Command;
 use picture::{Ending, State};
 
-fn told(belt: Belt) -> Belt {
+fn told(rt: &impl Print, belt: Belt) -> Belt {
     let state = belt.state;
-    show::text(b"state");
-    show::state(state);
+    show::text(rt, b"state");
+    show::state(rt, state);
     belt::still(belt, belt::ALL)
 }
 
 // The state with its plan.
-fn told_whole(belt: Belt) -> Belt {
-    let next = told(belt);
+fn told_whole(rt: &impl Print, belt: Belt) -> Belt {
+    let next = told(rt, belt);
     let state = next.state;
     let plan = state.plan;
-    show::plan(plan);
+    show::plan(rt, plan);
     next
 }
 
@@ -56,8 +56,8 @@ fn planned(belt: Belt, given: &[u8]) -> Belt {
 }
 
 // So much of the memory is lent from now on.
-fn lend(belt: Belt, c: Command) -> Belt {
-    show::text(b"lend");
+fn lend(rt: &impl Print, belt: Belt, c: Command) -> Belt {
+    show::text(rt, b"lend");
     let lent = Lent {
         values: c.a,
         positions: c.b,
@@ -70,8 +70,8 @@ fn lend(belt: Belt, c: Command) -> Belt {
 }
 
 // Where what a plan needs ends.
-fn part(belt: Belt, c: Command) -> Belt {
-    show::text(b"edge");
+fn part(rt: &impl Print, belt: Belt, c: Command) -> Belt {
+    show::text(rt, b"edge");
     let edge = Edge {
         cells: c.a,
         records: c.b,
@@ -94,8 +94,8 @@ fn exchange(bytes: &mut [u8; 1024], i: usize, new: u8) -> u8 {
 }
 
 // Another column record; what stood there is kept.
-fn spoil(belt: Belt, at: usize, x: u8, y: u8) -> Belt {
-    show::text(b"record");
+fn spoil(rt: &impl Print, belt: Belt, at: usize, x: u8, y: u8) -> Belt {
+    show::text(rt, b"record");
     let mut m = belt.memory;
     let mut starts = m.starts;
     let mut lengths = m.lengths;
@@ -109,21 +109,21 @@ fn spoil(belt: Belt, at: usize, x: u8, y: u8) -> Belt {
 }
 
 // Words for the reader of the lines.
-fn title(belt: Belt, given: &[u8]) -> Belt {
-    show::text(given);
+fn title(rt: &impl Print, belt: Belt, given: &[u8]) -> Belt {
+    show::text(rt, given);
     belt::still(belt, belt::NOTHING)
 }
 
-pub fn call(belt: Belt, c: Command, given: &[u8]) -> Belt {
+pub fn call(rt: &impl Print, belt: Belt, c: Command, given: &[u8]) -> Belt {
     let which = c.op % 16;
     match which {
-        0 => told(fields(belt, c)),
-        1 => told_whole(planned(belt, given)),
-        2 => told_whole(belt),
-        3 => lend(belt, c),
-        4 => part(belt, c),
-        5 => spoil(belt, c.a, c.x, c.y),
-        6 => spoil(belt, c.a, belt.start, belt.length),
-        _ => title(belt, given),
+        0 => told(rt, fields(belt, c)),
+        1 => told_whole(rt, planned(belt, given)),
+        2 => told_whole(rt, belt),
+        3 => lend(rt, belt, c),
+        4 => part(rt, belt, c),
+        5 => spoil(rt, belt, c.a, c.x, c.y),
+        6 => spoil(rt, belt, c.a, belt.start, belt.length),
+        _ => title(rt, belt, given),
     }
 }

@@ -13,6 +13,7 @@
 ghost use Rattle.std.specs.Prelude.{◌≡◌, ◌≤◌, ◌<◌, length, take};
 
 use script::up_to;
+use std::io::Read;
 
 #[derive(Clone, Copy)]
 pub struct Command {
@@ -34,10 +35,9 @@ fn number(bytes: &[u8; 43], at: usize) -> usize
 }
 
 // The next command; its number is 0 where there is none.
-pub fn read(from: i32) -> Command {
+pub fn read(from: &mut impl Read) -> Command {
     let mut bytes = [0u8; 43];
-    let got = io::read_full(from, &mut bytes);
-    if got < 43 {
+    if from.read_exact(&mut bytes).is_err() {
         bytes[0] = 0;
     }
     Command {
@@ -53,10 +53,10 @@ pub fn read(from: i32) -> Command {
 }
 
 // The bytes that follow a command, as many as there is room for. What it ensures of their number spares the caller a proof.
-pub fn follow(from: i32, size: usize, room: &mut [u8]) -> usize
+pub fn follow(from: &mut impl Read, size: usize, room: &mut [u8]) -> usize
     ensures { (result ≤ length room.new) × (result ≡ length (take result room.new)) }
 {
     let n = up_to(size, &room[..]);
-    io::read_full(from, &mut room[..n]);
+    let _ = from.read_exact(&mut room[..n]);
     up_to(n, &room[..])
 }

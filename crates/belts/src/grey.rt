@@ -6,18 +6,18 @@ use picture::grey::{ReadOut, drain, read_out, row};
 use picture::{State, Stepped};
 
 // What a step answered, that much of the output row, and the state after it.
-fn told(belt: Belt, memory: Memory, s: Stepped, n: usize) -> Belt {
-    let next = belt::stepped(belt, memory, s);
+fn told(rt: &impl Print, belt: Belt, memory: Memory, s: Stepped, n: usize) -> Belt {
+    let next = belt::stepped(rt, belt, memory, s);
     let out = memory.out;
     let k = of_bytes(n, &out);
-    show::bytes(b"; out", &out[..k]);
+    show::bytes(rt, b"; out", &out[..k]);
     let state = next.state;
-    show::state(state);
+    show::state(rt, state);
     next
 }
 
 // A row, whose pixels are given.
-fn offer(belt: Belt, c: Command, given: &[u8]) -> Belt {
+fn offer(rt: &impl Print, belt: Belt, c: Command, given: &[u8]) -> Belt {
     let state = belt.state;
     let m = belt.memory;
     let lent = belt.lent;
@@ -31,7 +31,7 @@ fn offer(belt: Belt, c: Command, given: &[u8]) -> Belt {
     let p = of_cells(lent.positions, &positions);
     let s = of_bytes(lent.starts, &starts);
     let l = of_bytes(lent.lengths, &lengths);
-    show::text(b"grey row: ");
+    show::text(rt, b"grey row: ");
     let stepped = row(
         state,
         given,
@@ -47,10 +47,10 @@ fn offer(belt: Belt, c: Command, given: &[u8]) -> Belt {
     next.positions = positions;
     next.starts = starts;
     next.lengths = lengths;
-    told(belt, next, stepped, n)
+    told(rt, belt, next, stepped, n)
 }
 
-fn drained(belt: Belt, c: Command) -> Belt {
+fn drained(rt: &impl Print, belt: Belt, c: Command) -> Belt {
     let state = belt.state;
     let m = belt.memory;
     let lent = belt.lent;
@@ -64,7 +64,7 @@ fn drained(belt: Belt, c: Command) -> Belt {
     let p = of_cells(lent.positions, &positions);
     let s = of_bytes(lent.starts, &starts);
     let l = of_bytes(lent.lengths, &lengths);
-    show::text(b"grey drain: ");
+    show::text(rt, b"grey drain: ");
     let stepped = drain(
         state,
         &mut out[..n],
@@ -79,13 +79,14 @@ fn drained(belt: Belt, c: Command) -> Belt {
     next.positions = positions;
     next.starts = starts;
     next.lengths = lengths;
-    told(belt, next, stepped, n)
+    told(rt, belt, next, stepped, n)
 }
 
 // ---- queues
 
 // Shows a place of a queue, and says whether it is there.
 fn place<'a>(
+    rt: &impl Print,
     state: State,
     stage: usize,
     column: usize,
@@ -100,15 +101,15 @@ fn place<'a>(
     );
     match shown {
         ReadOut::Found(e) => {
-            show::text(b" ");
-            show::byte(e.value);
-            show::text(b"@");
-            show::number(e.position);
+            show::text(rt, b" ");
+            show::byte(rt, e.value);
+            show::text(rt, b"@");
+            show::number(rt, e.position);
             true
         }
         ReadOut::Refused(number) => {
-            show::text(b" -");
-            show::byte(number);
+            show::text(rt, b" -");
+            show::byte(rt, number);
             false
         }
     }
@@ -116,6 +117,7 @@ fn place<'a>(
 
 // The places of a queue from one on, up to the first that is not there, at most so many.
 fn places<'a>(
+    rt: &impl Print,
     state: State,
     c: Command,
     values: &'a [u8],
@@ -125,13 +127,13 @@ fn places<'a>(
 ) {
     let mut left = c.x;
     let mut k = c.c;
-    while 0 < left && place(state, c.a, c.b, k, values, positions, starts, lengths) {
+    while 0 < left && place(rt, state, c.a, c.b, k, values, positions, starts, lengths) {
         left -= 1;
         k = belt::next(k);
     }
 }
 
-fn shown(belt: Belt, c: Command) -> Belt {
+fn shown(rt: &impl Print, belt: Belt, c: Command) -> Belt {
     let state = belt.state;
     let m = belt.memory;
     let lent = belt.lent;
@@ -143,8 +145,9 @@ fn shown(belt: Belt, c: Command) -> Belt {
     let p = of_cells(lent.positions, &positions);
     let s = of_bytes(lent.starts, &starts);
     let l = of_bytes(lent.lengths, &lengths);
-    show::text(b"grey queue:");
+    show::text(rt, b"grey queue:");
     places(
+        rt,
         state,
         c,
         &values[..v],
@@ -155,11 +158,11 @@ fn shown(belt: Belt, c: Command) -> Belt {
     belt::still(belt, belt::ALL)
 }
 
-pub fn call(belt: Belt, c: Command, given: &[u8]) -> Belt {
+pub fn call(rt: &impl Print, belt: Belt, c: Command, given: &[u8]) -> Belt {
     let which = c.op % 16;
     match which {
-        0 => offer(belt, c, given),
-        1 => drained(belt, c),
-        _ => shown(belt, c),
+        0 => offer(rt, belt, c, given),
+        1 => drained(rt, belt, c),
+        _ => shown(rt, belt, c),
     }
 }

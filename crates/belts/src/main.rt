@@ -6,7 +6,10 @@ ghost use Rattle.std.specs.Prelude.{◌≤◌};
 
 use belt::Belt;
 use command::Command;
-use libc::STDIN_FILENO;
+use std::fmt::InlineText;
+use std::fs::File;
+use std::io::Read;
+use std::rt::Files;
 
 mod begin; // begin.rt: starts and stops
 mod belt; // belt.rt: the state, the memory and what of it is lent
@@ -17,21 +20,21 @@ mod rate; // rate.rt: calls on pictures of floats
 mod watch; // watch.rt: whether a call left alone what it has to
 
 // A command, by its group; the line's end is left.
-fn called(belt: Belt, c: Command, given: &[u8]) -> Belt {
+fn called(rt: &impl Print, belt: Belt, c: Command, given: &[u8]) -> Belt {
     let group = c.op / 16;
     match group {
-        1 => grey::call(belt, c, given),
-        2 => rate::call(belt, c, given),
-        3 => begin::call(belt, c, given),
-        _ => change::call(belt, c, given),
+        1 => grey::call(rt, belt, c, given),
+        2 => rate::call(rt, belt, c, given),
+        3 => begin::call(rt, belt, c, given),
+        _ => change::call(rt, belt, c, given),
     }
 }
 
 // A command, with the bytes that follow it, and its line.
-fn carry_out(belt: Belt, c: Command, from: i32) -> Belt {
-    let mut room = io::buffer();
+fn carry_out(rt: &impl Print, belt: Belt, c: Command, from: &mut impl Read) -> Belt {
+    let mut room = [0u8; 4096];
     let n = command::follow(from, c.size, &mut room);
-    watch::ended(called(belt, c, &room[..n]))
+    watch::ended(rt, called(rt, belt, c, &room[..n]))
 }
 
 // The turns that are left: none where there is no command.
@@ -42,39 +45,33 @@ fn turns(c: Command, left: u32) -> u32
 }
 
 // Command after command, to the end.
-fn run(from: i32) {
+fn run(rt: &impl Print, from: &mut impl Read) {
     let mut belt = watch::summed(belt::first());
     let mut c = command::read(from);
     let mut left = turns(c, 4294967295);
     while 0 < left {
-        belt = carry_out(belt, c, from);
+        belt = carry_out(rt, belt, c, from);
         c = command::read(from);
         left = turns(c, left - 1);
     }
 }
 
-fn digit(n: u8) -> u8 {
-    48 + n % 10
-}
-
 // Carries out file n, and says whether there is one.
-fn one(n: u8) -> bool {
-    let name = [b'b', digit(n / 100), digit(n / 10), digit(n)];
-    let from = os::open_read(&name);
-    if from < 0 {
+fn one(rt: &(impl Print + Files), n: u8) -> bool {
+    let name = InlineText::<4>::of(format_args!("b{n:03}"));
+    let Ok(mut from) = File::open(rt, name.as_str()) else {
         return false;
-    }
-    run(from);
-    libc::close(from);
+    };
+    run(rt, &mut from);
     true
 }
 
-fn main() {
+fn main(rt: HostRuntime) {
     let mut n: u8 = 0;
-    while n < 255 && one(n) {
+    while n < 255 && one(&rt, n) {
         n += 1;
     }
     if n == 0 {
-        run(STDIN_FILENO);
+        run(&rt, &mut rt.stdin());
     }
 }

@@ -8,13 +8,13 @@ use picture::rate::{ReadOut, drain, read_out, row};
 use picture::{State, Stepped};
 
 // What a step answered, that much of the output row, and the state after it.
-fn told(belt: Belt, memory: Memory, s: Stepped, n: usize) -> Belt {
-    let next = belt::stepped(belt, memory, s);
+fn told(rt: &impl Print, belt: Belt, memory: Memory, s: Stepped, n: usize) -> Belt {
+    let next = belt::stepped(rt, belt, memory, s);
     let out = memory.came;
     let k = of_floats(n, &out);
-    show::floats(b"; out", &out[..k]);
+    show::floats(rt, b"; out", &out[..k]);
     let state = next.state;
-    show::state(state);
+    show::state(rt, state);
     next
 }
 
@@ -50,7 +50,7 @@ fn pixels(given: &[u8], count: usize, room: &mut [f32; 1024]) -> usize
 }
 
 // A row, whose pixels are given.
-fn offer(belt: Belt, c: Command, given: &[u8]) -> Belt {
+fn offer(rt: &impl Print, belt: Belt, c: Command, given: &[u8]) -> Belt {
     let state = belt.state;
     let m = belt.memory;
     let lent = belt.lent;
@@ -64,7 +64,7 @@ fn offer(belt: Belt, c: Command, given: &[u8]) -> Belt {
     let p = of_cells(lent.positions, &positions);
     let s = of_bytes(lent.starts, &starts);
     let l = of_bytes(lent.lengths, &lengths);
-    show::text(b"rate row: ");
+    show::text(rt, b"rate row: ");
     let mut room = blank();
     let k = pixels(given, c.a, &mut room);
     let stepped = row(
@@ -82,10 +82,10 @@ fn offer(belt: Belt, c: Command, given: &[u8]) -> Belt {
     next.positions = positions;
     next.starts = starts;
     next.lengths = lengths;
-    told(belt, next, stepped, n)
+    told(rt, belt, next, stepped, n)
 }
 
-fn drained(belt: Belt, c: Command) -> Belt {
+fn drained(rt: &impl Print, belt: Belt, c: Command) -> Belt {
     let state = belt.state;
     let m = belt.memory;
     let lent = belt.lent;
@@ -99,7 +99,7 @@ fn drained(belt: Belt, c: Command) -> Belt {
     let p = of_cells(lent.positions, &positions);
     let s = of_bytes(lent.starts, &starts);
     let l = of_bytes(lent.lengths, &lengths);
-    show::text(b"rate drain: ");
+    show::text(rt, b"rate drain: ");
     let stepped = drain(
         state,
         &mut out[..n],
@@ -114,13 +114,14 @@ fn drained(belt: Belt, c: Command) -> Belt {
     next.positions = positions;
     next.starts = starts;
     next.lengths = lengths;
-    told(belt, next, stepped, n)
+    told(rt, belt, next, stepped, n)
 }
 
 // ---- queues
 
 // Shows a place of a queue, and says whether it is there.
 fn place<'a>(
+    rt: &impl Print,
     state: State,
     stage: usize,
     column: usize,
@@ -135,15 +136,15 @@ fn place<'a>(
     );
     match shown {
         ReadOut::Found(e) => {
-            show::text(b" ");
-            show::float(e.value);
-            show::text(b"@");
-            show::number(e.position);
+            show::text(rt, b" ");
+            show::float(rt, e.value);
+            show::text(rt, b"@");
+            show::number(rt, e.position);
             true
         }
         ReadOut::Refused(number) => {
-            show::text(b" -");
-            show::byte(number);
+            show::text(rt, b" -");
+            show::byte(rt, number);
             false
         }
     }
@@ -151,6 +152,7 @@ fn place<'a>(
 
 // The places of a queue from one on, up to the first that is not there, at most so many.
 fn places<'a>(
+    rt: &impl Print,
     state: State,
     c: Command,
     values: &'a [f32],
@@ -160,13 +162,13 @@ fn places<'a>(
 ) {
     let mut left = c.x;
     let mut k = c.c;
-    while 0 < left && place(state, c.a, c.b, k, values, positions, starts, lengths) {
+    while 0 < left && place(rt, state, c.a, c.b, k, values, positions, starts, lengths) {
         left -= 1;
         k = belt::next(k);
     }
 }
 
-fn shown(belt: Belt, c: Command) -> Belt {
+fn shown(rt: &impl Print, belt: Belt, c: Command) -> Belt {
     let state = belt.state;
     let m = belt.memory;
     let lent = belt.lent;
@@ -178,8 +180,9 @@ fn shown(belt: Belt, c: Command) -> Belt {
     let p = of_cells(lent.positions, &positions);
     let s = of_bytes(lent.starts, &starts);
     let l = of_bytes(lent.lengths, &lengths);
-    show::text(b"rate queue:");
+    show::text(rt, b"rate queue:");
     places(
+        rt,
         state,
         c,
         &values[..v],
@@ -190,11 +193,11 @@ fn shown(belt: Belt, c: Command) -> Belt {
     belt::still(belt, belt::ALL)
 }
 
-pub fn call(belt: Belt, c: Command, given: &[u8]) -> Belt {
+pub fn call(rt: &impl Print, belt: Belt, c: Command, given: &[u8]) -> Belt {
     let which = c.op % 16;
     match which {
-        0 => offer(belt, c, given),
-        1 => drained(belt, c),
-        _ => shown(belt, c),
+        0 => offer(rt, belt, c, given),
+        1 => drained(rt, belt, c),
+        _ => shown(rt, belt, c),
     }
 }

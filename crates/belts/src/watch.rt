@@ -76,23 +76,23 @@ fn sum(m: Memory, from: Edge, to: Edge, before: usize) -> usize {
     between(&lengths, from.records, to.records, s)
 }
 
-fn tell(is_kept: bool) {
+fn tell(rt: &impl Print, is_kept: bool) {
     if is_kept {
-        show::text(b"; kept");
+        show::text(rt, b"; kept");
     } else {
-        show::text(b"; CHANGED");
+        show::text(rt, b"; CHANGED");
     }
 }
 
 // Says whether what the last call has to leave alone is as it was.
-fn judge(belt: Belt, all: usize, rest: usize) {
+fn judge(rt: &impl Print, belt: Belt, all: usize, rest: usize) {
     if belt.leaves == belt::ALL {
-        tell(belt.all == all);
+        tell(rt, belt.all == all);
     }
     if belt.leaves == belt::REST {
-        tell(belt.rest == rest);
+        tell(rt, belt.rest == rest);
     }
-    show::text(b"\n");
+    show::text(rt, b"\n");
 }
 
 fn edge_at(cells: usize, records: usize) -> Edge {
@@ -114,8 +114,8 @@ pub fn summed(belt: Belt) -> Belt {
 }
 
 // The line's end, and the run with the sums anew.
-pub fn ended(belt: Belt) -> Belt {
+pub fn ended(rt: &impl Print, belt: Belt) -> Belt {
     let next = summed(belt);
-    judge(belt, next.all, next.rest);
+    judge(rt, belt, next.all, next.rest);
     next
 }

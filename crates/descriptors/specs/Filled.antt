@@ -1,4 +1,4 @@
--- What a part is filled with. Which bytes the system brings, and when an input ends, no contract of the C library says.
+-- What a part is filled with. Which bytes the system brings, and when an input ends, no contract of the library says.
 use Rattle.std.specs.Prelude.{ℕ, ◌≤◌}
 use Rattle.descriptors.specs.declared.Filled.{Filled}
 use Rattle.descriptors.specs.declared.Filled.TheVariants.{With, Failed}

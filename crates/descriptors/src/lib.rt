@@ -1,11 +1,16 @@
-// Parts filled from a descriptor and frames written to one. Every read and write of a run is made here, and what fails is said here, on standard error, before errno is lost.
-// A descriptor that does not block is waited for, as one that blocks would have its caller wait.
+// Parts filled from a reader and frames written to a writer. Every read and write of a run is made here, and what fails is said here, on standard error, while the error is at hand.
+// A reader or a writer that is not ready is waited for, as one that blocks would have its caller wait.
 #![tactic(auto)]
 
-ghost use Rattle.std.specs.Prelude.{◌≤◌, length};
+ghost use Rattle.std.specs.Prelude.{◌≤◌, length, IfOk};
 ghost use Rattle.descriptors.specs.Filled.{Fills};
 
-// How often a descriptor that is not ready is tried again. A loop has to end: this one does so after a year and more of pauses.
+use std::fmt::InlineText;
+use std::io;
+use std::io::{ErrorKind, Read, Write};
+use std::rt::Clock;
+
+// How often a reader or a writer that is not ready is tried again. A loop has to end: this one does so after a year and more of pauses.
 const PATIENCE: u32 = 4294967295;
 
 // What a part was filled with: so many bytes at its front, fewer than it holds only where the input has ended; or a read failed.
@@ -15,52 +20,73 @@ pub enum Filled {
     Failed,
 }
 
-// Whether a call that has just failed is to be made again: at once after a signal, after a pause where the descriptor is not ready.
-fn is_to_be_tried_again() -> bool {
-    let error = os::errno();
-    if error == libc::EAGAIN {
-        pause::pause();
+// Whether a call that has just failed is to be made again: at once after a signal, after a pause where the reader or the writer is not ready.
+fn is_to_be_tried_again(rt: &impl Clock, error: io::Error) -> bool {
+    let kind = error.kind();
+    if kind == ErrorKind::WouldBlock {
+        pause::pause(rt);
         return true;
     }
-    error == libc::EINTR
+    kind == ErrorKind::Interrupted
 }
 
-// A line on standard error: what failed, and errno's text.
-fn say_unread() {
-    os::fail(b"kelafshir: reading the job");
+// A line on standard error: what failed, and the system's text for it, without the number that the library puts behind it. It is lost where nothing can be said.
+fn say(rt: &impl Eprint, what: &str, error: io::Error) {
+    let told = InlineText::<256>::of(error);
+    let text = told.as_str();
+    let words = match text.split_once(" (os error ") {
+        Some((words, _)) => words,
+        None => text,
+    };
+    let _ = eprintln!(rt; "{what}: {words}");
 }
 
-fn say_unwritten() {
-    os::fail(b"kelafshir: writing the answer");
+fn say_unread(rt: &impl Eprint, error: io::Error) {
+    say(rt, "kelafshir: reading the job", error);
+}
+
+fn say_unwritten(rt: &impl Eprint, error: io::Error) {
+    say(rt, "kelafshir: writing the answer", error);
 }
 
 // One read that does not fail for want of bytes: how many came, none at the input's end.
-fn read_some(fd: i32, part: &mut [u8]) -> Filled
+fn read_patiently<H: Clock, R: Read>(rt: &H, from: &mut R, part: &mut [u8]) -> io::Result<usize>
+    ensures { IfOk result (λ got. got ≤ length part.new) }
+{
+    for _ in 1..PATIENCE {
+        match from.read(part) {
+            Ok(got) => return Ok(got),
+            Err(error) => {
+                if !is_to_be_tried_again(rt, error) {
+                    return Err(error);
+                }
+            }
+        }
+    }
+    from.read(part)
+}
+
+// Such a read, which says so where it fails.
+fn read_some<H: Clock + Eprint, R: Read>(rt: &H, from: &mut R, part: &mut [u8]) -> Filled
     ensures { Fills (length part.new) result }
 {
-    let mut left = PATIENCE;
-    while 0 < left {
-        let got = libc::read(fd, part);
-        if 0 <= got {
-            return Filled::With(io::count(got, &part[..]));
+    match read_patiently(rt, from, part) {
+        Ok(got) => Filled::With(got),
+        Err(error) => {
+            say_unread(rt, error);
+            Filled::Failed
         }
-        if !is_to_be_tried_again() {
-            return Filled::Failed;
-        }
-        left -= 1;
     }
-    Filled::Failed
 }
 
 // Reads until the part is full or the input ends; says so where a read fails.
-pub fn fill(fd: i32, part: &mut [u8]) -> Filled
+pub fn fill<H: Clock + Eprint, R: Read>(rt: &H, from: &mut R, part: &mut [u8]) -> Filled
     ensures { Fills (length part.new) result }
 {
     let mut got = 0;
     while got < part.len() {
-        let some = read_some(fd, &mut part[got..]);
+        let some = read_some(rt, from, &mut part[got..]);
         let Filled::With(more) = some else {
-            say_unread();
             return some;
         };
         if more == 0 {
@@ -71,33 +97,48 @@ pub fn fill(fd: i32, part: &mut [u8]) -> Filled
     Filled::With(got)
 }
 
-// One write that does not fail for want of room: how many bytes were taken, none where it failed.
-fn write_some(fd: i32, bytes: &[u8]) -> usize
+// One write that does not fail for want of room: how many bytes were taken.
+fn write_patiently<H: Clock, W: Write>(rt: &H, to: &mut W, bytes: &[u8]) -> io::Result<usize>
+    ensures { IfOk result (λ taken. taken ≤ length bytes.now) }
+{
+    for _ in 1..PATIENCE {
+        match to.write(bytes) {
+            Ok(taken) => return Ok(taken),
+            Err(error) => {
+                if !is_to_be_tried_again(rt, error) {
+                    return Err(error);
+                }
+            }
+        }
+    }
+    to.write(bytes)
+}
+
+// Such a write, which says so where it fails or takes nothing: then none were taken.
+fn write_some<H: Clock + Eprint, W: Write>(rt: &H, to: &mut W, bytes: &[u8]) -> usize
     ensures { result ≤ length bytes.now }
 {
-    let mut left = PATIENCE;
-    while 0 < left {
-        let put = libc::write(fd, bytes);
-        if 0 <= put {
-            return io::count(put, bytes);
+    match write_patiently(rt, to, bytes) {
+        Ok(0) => {
+            say_unwritten(rt, io::Error::from(ErrorKind::WriteZero));
+            0
         }
-        if !is_to_be_tried_again() {
-            return 0;
+        Ok(taken) => taken,
+        Err(error) => {
+            say_unwritten(rt, error);
+            0
         }
-        left -= 1;
     }
-    0
 }
 
 // Writes all bytes, and answers how many were taken: fewer than all only where a write failed, and then it says so.
-pub fn write_whole(fd: i32, bytes: &[u8]) -> usize
+pub fn write_whole<H: Clock + Eprint, W: Write>(rt: &H, to: &mut W, bytes: &[u8]) -> usize
     ensures { result ≤ length bytes.now }
 {
     let mut done = 0;
     while done < bytes.len() {
-        let taken = write_some(fd, &bytes[done..]);
+        let taken = write_some(rt, to, &bytes[done..]);
         if taken == 0 {
-            say_unwritten();
             return done;
         }
         done += taken;

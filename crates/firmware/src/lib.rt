@@ -1,5 +1,5 @@
-// What the scanner bench's firmware links: plain C-callable functions, the one-row filter on numbers and two rows of grey bytes, the same with positions, a whole job in memory, plans applied to whole pictures, the dark residue of a row, and the question whether a whole picture's residue is over a limit.
-// From C a row, a job, a picture or an output is a pointer and then a length. Those of a call may not overlap; nothing past any is read or written.
+// What the scanner bench's firmware calls, each function on numbers and rows as C has them: the one-row filter on numbers and two rows of grey bytes, the same with positions, a whole job in memory, plans applied to whole pictures, the dark residue of a row, and the question whether a whole picture's residue is over a limit.
+// The crate `firmware_c` hands each to C under the same name.
 #![tactic(auto)]
 
 ghost use Rattle.std.specs.Prelude.{◌≡◌};
@@ -31,8 +31,7 @@ fn judge(kind: u8, left: u8, right: u8, pixels: usize, places: usize) -> u8
 }
 
 // Filters the row `input` into the row `output`, and answers 0; or answers the number of a refusal, and writes nothing.
-#[unsafe(no_mangle)]
-pub extern "C" fn kelafshir_filter_row(
+pub fn kelafshir_filter_row(
     kind: u8,
     left: u8,
     right: u8,
@@ -66,8 +65,7 @@ fn judge_both(kind: u8, left: u8, right: u8, pixels: usize, places: usize, colum
 
 // Filters the row `input` into the row `output`, writes to `positions` where each pixel of it came from, the latest position where several have its value, and answers 0; or answers the number of
 // a refusal, and writes nothing.
-#[unsafe(no_mangle)]
-pub extern "C" fn kelafshir_filter_row_positions(
+pub fn kelafshir_filter_row_positions(
     kind: u8,
     left: u8,
     right: u8,
@@ -97,16 +95,14 @@ pub extern "C" fn kelafshir_filter_row_positions(
 }
 
 // Runs the job into the output, and answers the number at its answer's end and how many bytes that has; or 6 and none where the output is too short, and writes nothing.
-#[unsafe(no_mangle)]
-pub extern "C" fn kelafshir_run_job(job: &[u8], out: &mut [u8]) -> JobRun
+pub fn kelafshir_run_job(job: &[u8], out: &mut [u8]) -> JobRun
     ensures { RunsJob job.now out.old out.new result }
 {
     job_run::run(job, out)
 }
 
 // Applies the stages, five bytes each, to the picture of grey bytes in its place, and answers 0; or answers the number of a refusal, and changes nothing.
-#[unsafe(no_mangle)]
-pub extern "C" fn kelafshir_filter_picture(
+pub fn kelafshir_filter_picture(
     stages: &[[u8; 5]],
     width: usize,
     rows: usize,
@@ -125,8 +121,7 @@ pub extern "C" fn kelafshir_filter_picture(
 }
 
 // Applies the stages, five bytes each, to the picture of floats in its place, and answers 0; or answers the number of a refusal, and for 8 the pixel, and changes nothing.
-#[unsafe(no_mangle)]
-pub extern "C" fn kelafshir_filter_rates(
+pub fn kelafshir_filter_rates(
     stages: &[[u8; 5]],
     width: usize,
     rows: usize,
@@ -145,8 +140,7 @@ pub extern "C" fn kelafshir_filter_rates(
 }
 
 // The dark residue of row number `row` of a picture of `rows` rows, counted in the band of the closing's extents: puts it at `sum` and answers 0; or answers the number of a refusal, and writes nothing.
-#[unsafe(no_mangle)]
-pub extern "C" fn kelafshir_dark(
+pub fn kelafshir_dark(
     left: u8,
     right: u8,
     up: u8,
@@ -169,8 +163,7 @@ pub extern "C" fn kelafshir_dark(
 }
 
 // Starts the question whether a picture's residue is over a limit, and answers 0 and the question, for the caller to keep; or the number of a refusal, and all zeros.
-#[unsafe(no_mangle)]
-pub extern "C" fn kelafshir_worn_start(
+pub fn kelafshir_worn_start(
     left: u8,
     right: u8,
     up: u8,
@@ -216,8 +209,7 @@ fn worn_byte(answer: Worn) -> u8
 }
 
 // Hands in the next row of the closed picture and of the input. Once yes was said no row is read.
-#[unsafe(no_mangle)]
-pub extern "C" fn kelafshir_worn_pair(question: Question, closed: &[u8], input: &[u8]) -> WornTold
+pub fn kelafshir_worn_pair(question: Question, closed: &[u8], input: &[u8]) -> WornTold
     ensures { TellsWorn question closed.now input.now result }
 {
     let asked = worn::pair(question, closed, input);

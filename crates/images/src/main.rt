@@ -21,10 +21,10 @@ fn single(left: u8, right: u8, up: u8, down: u8) -> Plan {
     p
 }
 
-fn main() {
-    starts::of_extents();
-    starts::of_sizes();
-    starts::of_counts();
-    starts::of_needs();
-    rates::case_12();
+fn main(rt: HostRuntime) {
+    starts::of_extents(&rt);
+    starts::of_sizes(&rt);
+    starts::of_counts(&rt);
+    starts::of_needs(&rt);
+    rates::case_12(&rt);
 }

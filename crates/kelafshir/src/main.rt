@@ -3,6 +3,6 @@
 
 use program::{standard_input, standard_output};
 
-fn main() {
-    program::run(standard_input(), standard_output());
+fn main(rt: HostRuntime) {
+    program::run(&rt, standard_input(&rt), standard_output(&rt));
 }

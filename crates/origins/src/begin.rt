@@ -45,24 +45,24 @@ fn started(head: &[u8; 188], starts: &mut [u8], lengths: &mut [u8]) -> Started {
 }
 
 // A start, and its line.
-fn carry_out(head: &[u8; 188], starts: &mut [u8], lengths: &mut [u8]) {
+fn carry_out(rt: &impl Print, head: &[u8; 188], starts: &mut [u8], lengths: &mut [u8]) {
     let r = started(head, starts, lengths);
-    show::text(b"start: ");
-    told::number(r.number, r.state);
-    show::bytes(b"; starts", &starts[..]);
-    show::bytes(b"; lengths", &lengths[..]);
+    show::text(rt, b"start: ");
+    told::number(rt, r.number, r.state);
+    show::bytes(rt, b"; starts", &starts[..]);
+    show::bytes(rt, b"; lengths", &lengths[..]);
 }
 
-pub fn begin(head: &[u8; 188]) {
-    let mut starts = io::buffer();
-    let mut lengths = io::buffer();
-    let s = input::bytes(head::lent(head, 7), &mut starts);
-    let l = input::bytes(head::lent(head, 8), &mut lengths);
-    carry_out(head, &mut starts[..s], &mut lengths[..l]);
+pub fn begin(rt: &(impl Print + Input), head: &[u8; 188]) {
+    let mut starts = input::no_bytes();
+    let mut lengths = input::no_bytes();
+    let s = input::bytes(rt, head::lent(head, 7), &mut starts);
+    let l = input::bytes(rt, head::lent(head, 8), &mut lengths);
+    carry_out(rt, head, &mut starts[..s], &mut lengths[..l]);
 }
 
-pub fn end(head: &[u8; 188]) {
+pub fn end(rt: &impl Print, head: &[u8; 188]) {
     let r = picture::stop(head::state(head));
-    show::text(b"stop: ");
-    told::number(r.number, r.state);
+    show::text(rt, b"stop: ");
+    told::number(rt, r.number, r.state);
 }

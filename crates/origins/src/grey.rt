@@ -6,6 +6,7 @@ use picture::{State, Stepped};
 
 // A step: 0 a row, 1 a drain; 2 and 3 ask for origins. The ring is the columns that are lent.
 fn called(
+    rt: &impl Print,
     which: u8,
     s: State,
     pixels: &[u8],
@@ -30,6 +31,7 @@ fn called(
 
 // A step's line.
 fn tell<'a>(
+    rt: &impl Print,
     which: u8,
     stepped: Stepped,
     out: &'a [u8],
@@ -41,20 +43,21 @@ fn tell<'a>(
     starts: &'a [u8],
     lengths: &'a [u8],
 ) {
-    show::text(b"grey ");
-    told::step(which, stepped);
-    show::bytes(b"; out", out);
-    show::numbers(b"; origin rows", rows);
-    show::positions(b"; origin columns", from);
-    show::bytes(b"; values", values);
-    show::bytes(b"; positions", positions);
-    show::positions(b"; columns", columns);
-    show::bytes(b"; starts", starts);
-    show::bytes(b"; lengths", lengths);
+    show::text(rt, b"grey ");
+    told::step(rt, which, stepped);
+    show::bytes(rt, b"; out", out);
+    show::numbers(rt, b"; origin rows", rows);
+    show::positions(rt, b"; origin columns", from);
+    show::bytes(rt, b"; values", values);
+    show::bytes(rt, b"; positions", positions);
+    show::positions(rt, b"; columns", columns);
+    show::bytes(rt, b"; starts", starts);
+    show::bytes(rt, b"; lengths", lengths);
 }
 
 // A step, and its line.
 fn carry_out(
+    rt: &impl Print,
     which: u8,
     state: State,
     pixels: &[u8],
@@ -68,9 +71,10 @@ fn carry_out(
     lengths: &mut [u8],
 ) {
     let stepped = called(
-        which, state, pixels, out, rows, from, values, positions, columns, starts, lengths,
+        rt, which, state, pixels, out, rows, from, values, positions, columns, starts, lengths,
     );
     tell(
+        rt,
         which,
         stepped,
         &out[..],
@@ -86,6 +90,7 @@ fn carry_out(
 
 // The positions, the columns and the records are read, and the step is carried out.
 fn on_memory(
+    rt: &(impl Print + Input),
     head: &[u8; 188],
     pixels: &[u8],
     out: &mut [u8],
@@ -93,15 +98,16 @@ fn on_memory(
     from: &mut [u16],
     values: &mut [u8],
 ) {
-    let mut positions = io::buffer();
+    let mut positions = input::no_bytes();
     let mut columns = input::no_columns();
-    let mut starts = io::buffer();
-    let mut lengths = io::buffer();
-    let p = input::bytes(lent(head, 5), &mut positions);
-    let c = input::columns(lent(head, 6), &mut columns);
-    let s = input::bytes(lent(head, 7), &mut starts);
-    let l = input::bytes(lent(head, 8), &mut lengths);
+    let mut starts = input::no_bytes();
+    let mut lengths = input::no_bytes();
+    let p = input::bytes(rt, lent(head, 5), &mut positions);
+    let c = input::columns(rt, lent(head, 6), &mut columns);
+    let s = input::bytes(rt, lent(head, 7), &mut starts);
+    let l = input::bytes(rt, lent(head, 8), &mut lengths);
     carry_out(
+        rt,
         head[81] % 4,
         head::state(head),
         pixels,
@@ -117,18 +123,19 @@ fn on_memory(
 }
 
 // A step: its rows and the values of the cells are read, and then the rest.
-pub fn step(head: &[u8; 188]) {
-    let mut pixels = io::buffer();
-    let mut out = io::buffer();
+pub fn step(rt: &(impl Print + Input), head: &[u8; 188]) {
+    let mut pixels = input::no_bytes();
+    let mut out = input::no_bytes();
     let mut rows = input::no_rows();
     let mut from = input::no_columns();
-    let mut values = io::buffer();
-    let n = input::bytes(lent(head, 0), &mut pixels);
-    let o = input::bytes(lent(head, 1), &mut out);
-    let r = input::rows(lent(head, 2), &mut rows);
-    let f = input::columns(lent(head, 3), &mut from);
-    let v = input::bytes(lent(head, 4), &mut values);
+    let mut values = input::no_bytes();
+    let n = input::bytes(rt, lent(head, 0), &mut pixels);
+    let o = input::bytes(rt, lent(head, 1), &mut out);
+    let r = input::rows(rt, lent(head, 2), &mut rows);
+    let f = input::columns(rt, lent(head, 3), &mut from);
+    let v = input::bytes(rt, lent(head, 4), &mut values);
     on_memory(
+        rt,
         head,
         &pixels[..n],
         &mut out[..o],

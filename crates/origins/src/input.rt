@@ -1,10 +1,16 @@
 // What follows a head: the slices that a call is lent, one after the other.
 ghost use Rattle.std.specs.Prelude.{◌≡◌, ◌≤◌, length, take};
 
-use libc::STDIN_FILENO;
 use script::{up_to, up_to_floats, up_to_numbers, up_to_positions};
+use std::io::Read;
 
-// ---- room for them: bytes have that of io
+// ---- room for them
+
+pub fn no_bytes() -> [u8; 4096]
+    ensures { 4096 ≡ length result }
+{
+    [0; 4096]
+}
 
 pub fn no_columns() -> [u16; 4096]
     ensures { 4096 ≡ length result }
@@ -26,65 +32,65 @@ pub fn no_rates() -> [f32; 4096]
 
 // ---- what stands next in the input
 
-fn next_column() -> u16 {
+fn next_column(rt: &impl Input) -> u16 {
     let mut bytes = [0u8; 2];
-    io::read_full(STDIN_FILENO, &mut bytes);
+    let _ = rt.reader().read_exact(&mut bytes);
     script::pair(bytes[0], bytes[1]) as u16
 }
 
-fn next_row() -> usize {
+fn next_row(rt: &impl Input) -> usize {
     let mut bytes = [0u8; 8];
-    io::read_full(STDIN_FILENO, &mut bytes);
+    let _ = rt.reader().read_exact(&mut bytes);
     script::number(&bytes, 0)
 }
 
-fn next_rate() -> f32 {
+fn next_rate(rt: &impl Input) -> f32 {
     let mut bytes = [0u8; 4];
-    io::read_full(STDIN_FILENO, &mut bytes);
+    let _ = rt.reader().read_exact(&mut bytes);
     sample::rate::from_bytes(&bytes, 0)
 }
 
 // ---- slices: each comes to the start of its room, as far as there is room, and its length is given. What is ensured of that spares the caller a proof.
 
-pub fn bytes(count: usize, room: &mut [u8]) -> usize
+pub fn bytes(rt: &impl Input, count: usize, room: &mut [u8]) -> usize
     ensures { (result ≤ length room.new) × (result ≡ length (take result room.new)) }
 {
     let n = up_to(count, &room[..]);
-    io::read_full(STDIN_FILENO, &mut room[..n]);
+    let _ = rt.reader().read_exact(&mut room[..n]);
     up_to(n, &room[..])
 }
 
-pub fn columns(count: usize, room: &mut [u16]) -> usize
+pub fn columns(rt: &impl Input, count: usize, room: &mut [u16]) -> usize
     ensures { (result ≤ length room.new) × (result ≡ length (take result room.new)) }
 {
     let n = up_to_positions(count, &room[..]);
     let mut i = 0;
     while i < n {
-        room[i] = next_column();
+        room[i] = next_column(rt);
         i += 1;
     }
     up_to_positions(n, &room[..])
 }
 
-pub fn rows(count: usize, room: &mut [usize]) -> usize
+pub fn rows(rt: &impl Input, count: usize, room: &mut [usize]) -> usize
     ensures { (result ≤ length room.new) × (result ≡ length (take result room.new)) }
 {
     let n = up_to_numbers(count, &room[..]);
     let mut i = 0;
     while i < n {
-        room[i] = next_row();
+        room[i] = next_row(rt);
         i += 1;
     }
     up_to_numbers(n, &room[..])
 }
 
-pub fn rates(count: usize, room: &mut [f32]) -> usize
+pub fn rates(rt: &impl Input, count: usize, room: &mut [f32]) -> usize
     ensures { (result ≤ length room.new) × (result ≡ length (take result room.new)) }
 {
     let n = up_to_floats(count, &room[..]);
     let mut i = 0;
     while i < n {
-        room[i] = next_rate();
+        room[i] = next_rate(rt);
         i += 1;
     }
     up_to_floats(n, &room[..])

@@ -15,7 +15,7 @@
 // These numbers are hexadecimal.
 #![tactic(auto)]
 
-use libc::STDIN_FILENO;
+use std::io::Read;
 
 mod begin; // begin.rt: starts and stops
 mod grey; // grey.rt: steps on grey pictures
@@ -25,32 +25,31 @@ mod rate; // rate.rt: steps on pictures of floats
 mod told; // told.rt: what is told after a call
 
 // A command, by its group.
-fn called(head: &[u8; 188]) {
+fn called(rt: &(impl Print + Input), head: &[u8; 188]) {
     let group = head[81] / 16;
     match group {
-        1 => grey::step(head),
-        2 => rate::step(head),
-        3 => begin::begin(head),
-        4 => begin::end(head),
-        _ => told::words(head),
+        1 => grey::step(rt, head),
+        2 => rate::step(rt, head),
+        3 => begin::begin(rt, head),
+        4 => begin::end(rt, head),
+        _ => told::words(rt, head),
     }
 }
 
 // Carries out the next command, and says whether there is one.
-fn one() -> bool {
+fn one(rt: &(impl Print + Input)) -> bool {
     let mut head = [0u8; 188];
-    let got = io::read_full(STDIN_FILENO, &mut head);
-    if got < 188 {
+    if rt.reader().read_exact(&mut head).is_err() {
         return false;
     }
-    called(&head);
-    show::text(b"\n");
+    called(rt, &head);
+    show::text(rt, b"\n");
     true
 }
 
-fn main() {
+fn main(rt: HostRuntime) {
     let mut left: u32 = 4294967295;
-    while 0 < left && one() {
+    while 0 < left && one(&rt) {
         left -= 1;
     }
 }

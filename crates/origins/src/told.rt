@@ -2,38 +2,38 @@
 use crate::{head, input};
 use picture::{State, Stepped};
 
-fn name(which: u8) {
+fn name(rt: &impl Print, which: u8) {
     match which {
-        0 => show::text(b"row: "),
-        1 => show::text(b"drain: "),
-        2 => show::text(b"origin row: "),
-        _ => show::text(b"origin drain: "),
+        0 => show::text(rt, b"row: "),
+        1 => show::text(rt, b"drain: "),
+        2 => show::text(rt, b"origin row: "),
+        _ => show::text(rt, b"origin drain: "),
     }
 }
 
 // The state with its plan.
-fn state(state: State) {
-    show::state(state);
+fn state(rt: &impl Print, state: State) {
+    show::state(rt, state);
     let plan = state.plan;
-    show::plan(plan);
+    show::plan(rt, plan);
 }
 
-pub fn step(which: u8, s: Stepped) {
-    name(which);
+pub fn step(rt: &impl Print, which: u8, s: Stepped) {
+    name(rt, which);
     let a = s.answer;
-    show::answer(a);
-    state(s.state);
+    show::answer(rt, a);
+    state(rt, s.state);
 }
 
 // What a start or a stop gave: its number and a state.
-pub fn number(n: u8, s: State) {
-    show::byte(n);
-    state(s);
+pub fn number(rt: &impl Print, n: u8, s: State) {
+    show::byte(rt, n);
+    state(rt, s);
 }
 
 // Words for the reader.
-pub fn words(head: &[u8; 188]) {
-    let mut room = io::buffer();
-    let n = input::bytes(head::lent(head, 0), &mut room);
-    show::text(&room[..n]);
+pub fn words(rt: &(impl Print + Input), head: &[u8; 188]) {
+    let mut room = input::no_bytes();
+    let n = input::bytes(rt, head::lent(head, 0), &mut room);
+    show::text(rt, &room[..n]);
 }

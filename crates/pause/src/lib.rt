@@ -1,15 +1,11 @@
-// Waits a hundredth of a second, or less where a signal ends the wait early: a program that asks again and again for
-// something that is not there yet calls this between two questions, so that it does not keep a processor busy.
+// Waits a hundredth of a second: a program that asks again and again for something that is not there yet calls this between
+// two questions, so that it does not keep a processor busy. A signal does not cut the wait short.
 #![tactic(auto)]
 
-pub fn pause() {
-    let asked = libc::types::timespec {
-        tv_sec: 0,
-        tv_nsec: 10_000_000,
-    };
-    let mut left = libc::types::timespec {
-        tv_sec: 0,
-        tv_nsec: 0,
-    };
-    libc::nanosleep(&asked, &mut left);
+use std::rt::Clock;
+use std::thread;
+use std::time::Duration;
+
+pub fn pause(clock: &impl Clock) {
+    thread::sleep(clock, Duration::from_millis(10));
 }

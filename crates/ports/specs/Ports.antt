@@ -1,4 +1,4 @@
--- What a read and a write of a run tell, and when they may be made. Which bytes the system brings, and that it keeps what it is given, no contract of the C library says.
+-- What a read and a write of a run tell, and when they may be made. Which bytes the system brings, and that it keeps what it is given, no contract of the library says.
 use Rattle.std.specs.Prelude.{◌≡◌, true, false, List, [], ◌++◌, ℕ, ◌+◌, ◌≤◌, ◌<◌, ltb, length, take, drop}
 use Rattle.answer.specs.Answer.{answer_of}
 use Rattle.ports.specs.declared.Moved.{Moved}

@@ -1,44 +1,89 @@
-// The two descriptors of a run, and what went through them. Every read and write of a run goes through here, and is counted.
+// The two streams of a run, and what went through them. Every read and write of a run goes through here, and is counted.
 #![tactic(auto)]
 
 ghost use Rattle.std.specs.Prelude.{◌≡◌, false, ◌≤◌, length, pos};
+ghost use Rattle.std.specs.Fd.{file_raw_fd};
 ghost use Rattle.ports.specs.Ports.{Latest, Due, Receives, Gave};
+ghost use Rattle.ports.specs.Streams.{descriptor_of, descriptor_to};
 
 use descriptors::Filled;
+use std::fs::File;
+use std::io;
+use std::io::{Read, Stdin, Stdout};
+use std::os::fd::{AsRawFd, RawFd};
+use std::rt::Clock;
 
-// Where a job is read from, and where its answer goes: two types, so that neither stands for the other.
-// Their numbers are seen in this crate alone.
-#[derive(Clone, Copy)]
-pub struct Input {
-    fd: i32,
+// What bytes come from: standard input, or a file that was opened.
+#[derive(Drop)]
+enum Source {
+    Standard(Stdin),
+    Opened(File),
 }
 
-#[derive(Clone, Copy)]
-pub struct Output {
-    fd: i32,
-}
-
-// The descriptor of an open file, to read from.
-pub fn input_of(fd: i32) -> Input
-    ensures { result ≡ record { fd = fd } }
-{
-    Input { fd: fd }
-}
-
-// "reads a job from standard input": descriptor 0; its answer goes to standard output, descriptor 1.
-pub fn standard_input() -> Input
-    ensures { result ≡ record { fd = pos 0 } }
-{
-    Input {
-        fd: libc::STDIN_FILENO,
+impl Read for Source {
+    fn read(&mut self, part: &mut [u8]) -> io::Result<usize> {
+        match self {
+            Source::Standard(stdin) => stdin.read(part),
+            Source::Opened(file) => file.read(part),
+        }
     }
 }
 
-pub fn standard_output() -> Output
-    ensures { result ≡ record { fd = pos 1 } }
+// Where a job is read from, and where its answer goes: two types, so that neither stands for the other.
+// What they hold is seen in this crate alone.
+#[derive(Drop)]
+pub struct Input {
+    source: Source,
+}
+
+#[derive(Drop)]
+pub struct Output {
+    stdout: Stdout,
+}
+
+// An open file, to read from.
+pub fn input_of(file: File) -> Input
+    ensures { descriptor_of result ≡ file_raw_fd file }
+{
+    Input {
+        source: Source::Opened(file),
+    }
+}
+
+// "reads a job from standard input": descriptor 0; its answer goes to standard output, descriptor 1.
+pub fn standard_input(rt: &HostRuntime) -> Input
+    ensures { descriptor_of result ≡ pos 0 }
+{
+    Input {
+        source: Source::Standard(rt.stdin()),
+    }
+}
+
+pub fn standard_output(rt: &HostRuntime) -> Output
+    ensures { descriptor_to result ≡ pos 1 }
 {
     Output {
-        fd: libc::STDOUT_FILENO,
+        stdout: rt.stdout(),
+    }
+}
+
+// The numbers that the library gives them: nothing but the contracts above is made of these.
+impl Input {
+    fn descriptor(&self) -> RawFd
+        ensures { result ≡ descriptor_of self.now }
+    {
+        match &self.source {
+            Source::Standard(stdin) => stdin.as_raw_fd(),
+            Source::Opened(file) => file.as_raw_fd(),
+        }
+    }
+}
+
+impl Output {
+    fn descriptor(&self) -> RawFd
+        ensures { result ≡ descriptor_to self.now }
+    {
+        self.stdout.as_raw_fd()
     }
 }
 
@@ -85,7 +130,13 @@ pub fn nothing() -> Moved
 }
 
 // Reads until the part is full or the input ends; after its end nothing is read. A read that fails loses the run, and what came of the part before it is not counted.
-pub fn receive(from: Input, before: Moved, part: &mut [u8], total: &mut usize) -> Received
+pub fn receive<H: Clock + Eprint>(
+    rt: &H,
+    from: &mut Input,
+    before: Moved,
+    part: &mut [u8],
+    total: &mut usize,
+) -> Received
     requires { Latest before total.old }
     ensures { Receives before (length part.new) total.new result.got result.went }
 {
@@ -95,7 +146,7 @@ pub fn receive(from: Input, before: Moved, part: &mut [u8], total: &mut usize) -
             got: 0,
         };
     }
-    let filled = descriptors::fill(from.fd, part);
+    let filled = descriptors::fill(rt, &mut from.source, part);
     let Filled::With(got) = filled else {
         let loss = Loss {
             moved: before,
@@ -120,8 +171,9 @@ pub fn receive(from: Input, before: Moved, part: &mut [u8], total: &mut usize) -
 // Gives the front of a frame to be written; where nothing is put the system is not called. What is given has to be what is due: the next bytes of the answer, for input whose
 // last bytes are those at hand, which are lent so that the contract can speak of them. The frame is an array of a length that no other buffer of the run has.
 // Counted is what was taken. Of the total nothing is known after a write that failed: no call can follow it.
-pub fn give(
-    to: Output,
+pub fn give<H: Clock + Eprint>(
+    rt: &H,
+    to: &mut Output,
     before: Moved,
     hand: &[u8],
     frame: &[u8; 16385],
@@ -132,7 +184,7 @@ pub fn give(
     ensures { Gave before put total.new result }
 {
     let all: &[u8] = frame;
-    let taken = descriptors::write_whole(to.fd, &all[..put]);
+    let taken = descriptors::write_whole(rt, &mut to.stdout, &all[..put]);
     if taken == put {
         *total = *total + taken;
         return Went::Through(Moved {

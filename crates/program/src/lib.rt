@@ -1,4 +1,4 @@
-// The program that runs a job, on two descriptors: the turns of the machine, with a read before each and a write after it.
+// The program that runs a job, on two streams: the turns of the machine, with a read before each and a write after it.
 // What a turn wants, uses and puts is decided by crate turn; what is here moves bytes. A read or a write that fails ends the run: nothing can be told any more, and a job that
 // cannot be read gets no number.
 #![tactic(auto)]
@@ -10,6 +10,7 @@ ghost use Rattle.ports.specs.Ports.{Latest, Due, Gave};
 ghost use Rattle.program.specs.Inner.{Fetches, Settled};
 
 pub use ports::{Input, Loss, Moved, Output, Went, input_of, standard_input, standard_output};
+use std::rt::Clock;
 
 // The bytes at hand, at the front of a buffer: how many there are, and what was moved so far.
 #[derive(Clone, Copy)]
@@ -26,7 +27,14 @@ struct Brought {
 }
 
 // Reads until so many bytes are at hand or the input ends. The bytes that were at hand stay. The total is of all that went through.
-fn fetch(from: Input, bytes: &mut [u8], hand: Hand, wants: usize, total: &mut usize) -> Brought
+fn fetch<H: Clock + Eprint>(
+    rt: &H,
+    from: &mut Input,
+    bytes: &mut [u8],
+    hand: Hand,
+    wants: usize,
+    total: &mut usize,
+) -> Brought
     requires { (hand.have ≤ length bytes.old) × (wants ≤ length bytes.old) × Latest hand.moved total.old }
     ensures { Fetches bytes.old bytes.new hand wants total.new result.have result.went }
 {
@@ -38,7 +46,7 @@ fn fetch(from: Input, bytes: &mut [u8], hand: Hand, wants: usize, total: &mut us
             have: have,
         };
     }
-    let came = ports::receive(from, before, &mut bytes[have..wants], total);
+    let came = ports::receive(rt, from, before, &mut bytes[have..wants], total);
     let went = came.went;
     Brought {
         went: went,
@@ -47,8 +55,9 @@ fn fetch(from: Input, bytes: &mut [u8], hand: Hand, wants: usize, total: &mut us
 }
 
 // Gives what a turn put, which has to be due, and counts it on from what was moved so far.
-fn send(
-    to: Output,
+fn send<H: Clock + Eprint>(
+    rt: &H,
+    to: &mut Output,
     before: Moved,
     bytes: &[u8],
     frame: &[u8; 16385],
@@ -58,7 +67,7 @@ fn send(
     requires { (put ≤ 16385) × Latest before total.old × Due before bytes.now frame.now put }
     ensures { Gave before put total.new result }
 {
-    ports::give(to, before, bytes, frame, put, total)
+    ports::give(rt, to, before, bytes, frame, put, total)
 }
 
 // Moves the bytes that are not used to the front, and says how many they are.
@@ -76,9 +85,10 @@ fn keep(bytes: &mut [u8], used: usize, have: usize) -> usize
 }
 
 // Turn after turn, until the machine is over, or a read or a write fails. What is lent behind the frame is the turn's: two rows to work with, and the memory of the stages.
-fn go(
-    from: Input,
-    to: Output,
+fn go<H: Clock + Eprint>(
+    rt: &H,
+    from: &mut Input,
+    to: &mut Output,
     bytes: &mut [u8],
     frame: &mut [u8; 16385],
     row: &mut [f32],
@@ -99,7 +109,7 @@ fn go(
         have: 0,
     };
     while turns::is_on(machine) {
-        let fetched = fetch(from, bytes, hand, machine.wants, total);
+        let fetched = fetch(rt, from, bytes, hand, machine.wants, total);
         let went = fetched.went;
         let Went::Through(before) = went else {
             return went;
@@ -117,7 +127,7 @@ fn go(
             starts,
             lengths,
         );
-        let gone = send(to, before, &bytes[..have], frame, turned.put, total);
+        let gone = send(rt, to, before, &bytes[..have], frame, turned.put, total);
         let Went::Through(moved) = gone else {
             return gone;
         };
@@ -133,22 +143,23 @@ fn go(
 }
 
 // Runs the job that is read from the input, and gives its answer to the output. Its memory is local: some 100 KB.
-pub fn run(from: Input, to: Output) -> Went
+pub fn run<H: Clock + Eprint>(rt: &H, mut from: Input, mut to: Output) -> Went
     ensures { ProgramRan result }
 {
     let mut bytes = at_hand();
     let mut frame = frame();
     let mut row = floats();
     let mut came = floats();
-    let mut greys = io::buffer();
+    let mut greys = buffer();
     let mut rates = floats();
     let mut positions = positions();
-    let mut starts = io::buffer();
-    let mut lengths = io::buffer();
+    let mut starts = buffer();
+    let mut lengths = buffer();
     let mut total = 0;
     go(
-        from,
-        to,
+        rt,
+        &mut from,
+        &mut to,
         &mut bytes,
         &mut frame,
         &mut row,
@@ -185,6 +196,12 @@ fn floats() -> [f32; 4096]
 }
 
 fn positions() -> [u8; 4096]
+    ensures { 4096 ≡ length result }
+{
+    [0; 4096]
+}
+
+fn buffer() -> [u8; 4096]
     ensures { 4096 ≡ length result }
 {
     [0; 4096]

@@ -30,12 +30,12 @@ fn three() -> [u8; 80] {
     n
 }
 
-fn begin(name: &[u8], sample: u8, cells: usize) -> Greys {
+fn begin(rt: &impl Print, name: &[u8], sample: u8, cells: usize) -> Greys {
     let numbers = three();
     let mut starts = [0u8; 9];
     let mut lengths = [0u8; 9];
     let s = picture::start_numbers(3, &numbers, sample, 3, 3, cells, &mut starts, &mut lengths);
-    show::started(name, s);
+    show::started(rt, name, s);
     let state = s.state;
     Greys {
         state: state,
@@ -47,17 +47,17 @@ fn begin(name: &[u8], sample: u8, cells: usize) -> Greys {
     }
 }
 
-fn bytes(row: [u8; 3]) {
-    show::text(b" ");
-    show::byte(row[0]);
-    show::text(b" ");
-    show::byte(row[1]);
-    show::text(b" ");
-    show::byte(row[2]);
+fn bytes(rt: &impl Print, row: [u8; 3]) {
+    show::text(rt, b" ");
+    show::byte(rt, row[0]);
+    show::text(rt, b" ");
+    show::byte(rt, row[1]);
+    show::text(rt, b" ");
+    show::byte(rt, row[2]);
 }
 
 // Shows a place of a queue, and says whether it is there.
-fn place(r: Greys, stage: usize, column: usize, place: usize) -> bool {
+fn place(rt: &impl Print, r: Greys, stage: usize, column: usize, place: usize) -> bool {
     let values = r.values;
     let positions = r.positions;
     let starts = r.starts;
@@ -68,46 +68,46 @@ fn place(r: Greys, stage: usize, column: usize, place: usize) -> bool {
     );
     match shown {
         ReadOut::Found(e) => {
-            show::text(b" ");
-            show::byte(e.value);
-            show::text(b"@");
-            show::number(e.position);
+            show::text(rt, b" ");
+            show::byte(rt, e.value);
+            show::text(rt, b"@");
+            show::number(rt, e.position);
             true
         }
         ReadOut::Refused(number) => {
-            show::text(b" -");
-            show::byte(number);
+            show::text(rt, b" -");
+            show::byte(rt, number);
             false
         }
     }
 }
 
 // The places of a queue from the oldest on, up to the first that is not there.
-fn places(r: Greys, stage: usize) {
-    if place(r, stage, 1, 0) {
-        if place(r, stage, 1, 1) {
-            if place(r, stage, 1, 2) {
-                place(r, stage, 1, 3);
+fn places(rt: &impl Print, r: Greys, stage: usize) {
+    if place(rt, r, stage, 1, 0) {
+        if place(rt, r, stage, 1, 1) {
+            if place(rt, r, stage, 1, 2) {
+                place(rt, r, stage, 1, 3);
             }
         }
     }
 }
 
 // The output row, and the queues of column 1.
-fn after(r: Greys) {
-    show::text(b"; out");
+fn after(rt: &impl Print, r: Greys) {
+    show::text(rt, b"; out");
     let out = r.out;
-    bytes(out);
-    show::text(b"; queues");
-    places(r, 0);
-    show::text(b",");
-    places(r, 1);
-    show::text(b",");
-    places(r, 2);
-    show::text(b"\n");
+    bytes(rt, out);
+    show::text(rt, b"; queues");
+    places(rt, r, 0);
+    show::text(rt, b",");
+    places(rt, r, 1);
+    show::text(rt, b",");
+    places(rt, r, 2);
+    show::text(rt, b"\n");
 }
 
-fn offer(r: Greys, row: &[u8]) -> Greys {
+fn offer(rt: &impl Print, r: Greys, row: &[u8]) -> Greys {
     let mut out = r.out;
     let mut values = r.values;
     let mut positions = r.positions;
@@ -124,7 +124,7 @@ fn offer(r: Greys, row: &[u8]) -> Greys {
         &mut lengths,
     );
     let a = s.answer;
-    show::answer(a);
+    show::answer(rt, a);
     let state = s.state;
     let next = Greys {
         state: state,
@@ -134,31 +134,31 @@ fn offer(r: Greys, row: &[u8]) -> Greys {
         starts: starts,
         lengths: lengths,
     };
-    after(next);
+    after(rt, next);
     next
 }
 
-fn read(r: Greys, row: [u8; 3]) -> Greys {
-    show::text(b"grey picture, row");
-    bytes(row);
-    show::text(b": ");
-    offer(r, &row)
+fn read(rt: &impl Print, r: Greys, row: [u8; 3]) -> Greys {
+    show::text(rt, b"grey picture, row");
+    bytes(rt, row);
+    show::text(rt, b": ");
+    offer(rt, r, &row)
 }
 
-fn read_short(r: Greys) -> Greys {
-    show::text(b"grey picture, a row of 2: ");
+fn read_short(rt: &impl Print, r: Greys) -> Greys {
+    show::text(rt, b"grey picture, a row of 2: ");
     let row = [7u8, 2];
-    offer(r, &row)
+    offer(rt, r, &row)
 }
 
-fn drain(r: Greys) -> Greys {
+fn drain(rt: &impl Print, r: Greys) -> Greys {
     let mut out = r.out;
     let mut values = r.values;
     let mut positions = r.positions;
     let mut starts = r.starts;
     let mut lengths = r.lengths;
     let state = r.state;
-    show::text(b"grey picture, drain: ");
+    show::text(rt, b"grey picture, drain: ");
     let s = picture::grey::drain(
         state,
         &mut out,
@@ -168,7 +168,7 @@ fn drain(r: Greys) -> Greys {
         &mut lengths,
     );
     let a = s.answer;
-    show::answer(a);
+    show::answer(rt, a);
     let state = s.state;
     let next = Greys {
         state: state,
@@ -178,12 +178,12 @@ fn drain(r: Greys) -> Greys {
         starts: starts,
         lengths: lengths,
     };
-    after(next);
+    after(rt, next);
     next
 }
 
 // The same step on a cell less.
-fn too_few(r: Greys) {
+fn too_few(rt: &impl Print, r: Greys) {
     let row = [7u8, 2, 9];
     let mut out = r.out;
     let mut values = [0u8; 20];
@@ -191,7 +191,7 @@ fn too_few(r: Greys) {
     let mut starts = r.starts;
     let mut lengths = r.lengths;
     let state = r.state;
-    show::text(b"grey picture, a row on 20 cells: ");
+    show::text(rt, b"grey picture, a row on 20 cells: ");
     let s = picture::grey::row(
         state,
         &row,
@@ -202,39 +202,39 @@ fn too_few(r: Greys) {
         &mut lengths,
     );
     let a = s.answer;
-    show::answer(a);
-    show::text(b"\n");
+    show::answer(rt, a);
+    show::text(rt, b"\n");
 }
 
 // Names of a stage, a column and a place that are not there.
-fn nowhere(r: Greys) {
-    show::text(b"grey picture, stage 3, column 3, place 3:");
-    place(r, 3, 0, 0);
-    place(r, 0, 3, 0);
-    place(r, 0, 0, 3);
-    show::text(b"\n");
+fn nowhere(rt: &impl Print, r: Greys) {
+    show::text(rt, b"grey picture, stage 3, column 3, place 3:");
+    place(rt, r, 3, 0, 0);
+    place(rt, r, 0, 3, 0);
+    place(rt, r, 0, 0, 3);
+    show::text(rt, b"\n");
 }
 
 // A picture of 3 rows through the plan, with calls out of turn between them.
-fn three_stages() {
-    begin(b"three stages on 20 cells", 0, 20);
-    let r0 = begin(b"three stages on 21 cells", 0, 21);
-    too_few(r0);
-    let r1 = drain(read_short(read(r0, [7, 2, 9])));
-    let r2 = read(r1, [8, 0, 6]);
-    let r3 = drain(r2);
-    let r4 = read(r3, [3, 5, 1]);
-    let r5 = read_short(read(r4, [3, 5, 1]));
-    let r6 = drain(drain(drain(r5)));
-    nowhere(drain(read(r6, [3, 5, 1])));
+fn three_stages(rt: &impl Print) {
+    begin(rt, b"three stages on 20 cells", 0, 20);
+    let r0 = begin(rt, b"three stages on 21 cells", 0, 21);
+    too_few(rt, r0);
+    let r1 = drain(rt, read_short(rt, read(rt, r0, [7, 2, 9])));
+    let r2 = read(rt, r1, [8, 0, 6]);
+    let r3 = drain(rt, r2);
+    let r4 = read(rt, r3, [3, 5, 1]);
+    let r5 = read_short(rt, read(rt, r4, [3, 5, 1]));
+    let r6 = drain(rt, drain(rt, drain(rt, r5)));
+    nowhere(rt, drain(rt, read(rt, r6, [3, 5, 1])));
 }
 
 // A state of floats on the grey calls, and a state that was refused at its start.
-fn other_states() {
-    let f = begin(b"three stages of floats", 1, 21);
-    drain(read(f, [1, 2, 3]));
-    let n = begin(b"sample kind 2", 2, 21);
-    drain(read(n, [1, 2, 3]));
+fn other_states(rt: &impl Print) {
+    let f = begin(rt, b"three stages of floats", 1, 21);
+    drain(rt, read(rt, f, [1, 2, 3]));
+    let n = begin(rt, b"sample kind 2", 2, 21);
+    drain(rt, read(rt, n, [1, 2, 3]));
 }
 
 // The run with another start of stage 0's column 1, which has 2 places.
@@ -252,29 +252,29 @@ fn long(r: Greys, length: u8) -> Greys {
 }
 
 // The same picture without calls out of turn.
-fn in_turn(r: Greys) {
-    let r3 = read(read(read(r, [7, 2, 9]), [8, 0, 6]), [3, 5, 1]);
-    drain(drain(drain(r3)));
+fn in_turn(rt: &impl Print, r: Greys) {
+    let r3 = read(rt, read(rt, read(rt, r, [7, 2, 9]), [8, 0, 6]), [3, 5, 1]);
+    drain(rt, drain(rt, drain(rt, r3)));
 }
 
 // Records of a state as it is handed out. Document 01 gives 12 where "a queue's start is not below its places, or its length over its window (c+d+1 for both in a column ..)":
 // here 2 and 4, and not 1 and 3. The order of a step is "12 for the column records, then 9 or 10", so a drain before all rows are read is refused 12 with the first and 10
 // with the second. "Every refusal returns .. the state as given, and writes nothing": what the refused calls hand back, with a start that is let in, gives the rows and
 // queues of the picture above. Stage 1 reads no row in the plan's first step, so its queue of length 3 stays the three cells that were lent.
-fn records() {
-    let r = begin(b"records of empty queues", 0, 21);
-    show::text(b"start 2 of 2 places\n");
-    let s = drain(read(started_at(r, 2), [7, 2, 9]));
-    show::text(b"start 1 of 2 places\n");
-    in_turn(drain(started_at(s, 1)));
-    show::text(b"length 4 in a window of 3\n");
-    let l = drain(read(long(r, 4), [7, 2, 9]));
-    show::text(b"length 3 in a window of 3\n");
-    read(drain(long(l, 3)), [7, 2, 9]);
+fn records(rt: &impl Print) {
+    let r = begin(rt, b"records of empty queues", 0, 21);
+    show::text(rt, b"start 2 of 2 places\n");
+    let s = drain(rt, read(rt, started_at(r, 2), [7, 2, 9]));
+    show::text(rt, b"start 1 of 2 places\n");
+    in_turn(rt, drain(rt, started_at(s, 1)));
+    show::text(rt, b"length 4 in a window of 3\n");
+    let l = drain(rt, read(rt, long(r, 4), [7, 2, 9]));
+    show::text(rt, b"length 3 in a window of 3\n");
+    read(rt, drain(rt, long(l, 3)), [7, 2, 9]);
 }
 
-fn main() {
-    three_stages();
-    other_states();
-    records();
+fn main(rt: HostRuntime) {
+    three_stages(&rt);
+    other_states(&rt);
+    records(&rt);
 }

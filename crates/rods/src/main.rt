@@ -8,20 +8,20 @@ mod starts; // starts.rt: starts, taken and refused
 mod states; // states.rt: questions that no call made
 mod ways; // ways.rt: the two ways, and what is told of a call
 
-fn main() {
-    pairs::limits();
-    pairs::after_yes();
-    pairs::refusals();
-    bands::rows();
-    bands::sides();
-    starts::extents();
-    starts::sizes();
-    starts::empty_bands();
-    starts::orders();
-    states::rows();
-    states::sums();
-    states::sizes();
-    states::extents();
-    states::orders();
-    states::largest();
+fn main(rt: HostRuntime) {
+    pairs::limits(&rt);
+    pairs::after_yes(&rt);
+    pairs::refusals(&rt);
+    bands::rows(&rt);
+    bands::sides(&rt);
+    starts::extents(&rt);
+    starts::sizes(&rt);
+    starts::empty_bands(&rt);
+    starts::orders(&rt);
+    states::rows(&rt);
+    states::sums(&rt);
+    states::sizes(&rt);
+    states::extents(&rt);
+    states::orders(&rt);
+    states::largest(&rt);
 }

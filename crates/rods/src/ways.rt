@@ -11,49 +11,50 @@ pub struct Rod {
 // ---- what is told
 
 // A question's extents, width by rows, limit, row and sum.
-fn question(q: Question) {
-    show::text(b"; ");
-    show::byte(q.left);
-    show::text(b" ");
-    show::byte(q.right);
-    show::text(b" ");
-    show::byte(q.up);
-    show::text(b" ");
-    show::byte(q.down);
-    show::text(b", ");
-    show::number(q.width);
-    show::text(b" by ");
-    show::number(q.rows);
-    show::text(b", limit ");
-    show::number(q.limit as usize);
-    show::text(b", row ");
-    show::number(q.row);
-    show::text(b", sum ");
-    show::number(q.sum as usize);
+fn question(rt: &impl Print, q: Question) {
+    show::text(rt, b"; ");
+    show::byte(rt, q.left);
+    show::text(rt, b" ");
+    show::byte(rt, q.right);
+    show::text(rt, b" ");
+    show::byte(rt, q.up);
+    show::text(rt, b" ");
+    show::byte(rt, q.down);
+    show::text(rt, b", ");
+    show::number(rt, q.width);
+    show::text(rt, b" by ");
+    show::number(rt, q.rows);
+    show::text(rt, b", limit ");
+    show::number(rt, q.limit as usize);
+    show::text(rt, b", row ");
+    show::number(rt, q.row);
+    show::text(rt, b", sum ");
+    show::number(rt, q.sum as usize);
 }
 
-fn said(answer: Worn) {
+fn said(rt: &impl Print, answer: Worn) {
     match answer {
-        Worn::Yes => show::text(b"yes"),
-        Worn::No => show::text(b"no"),
-        Worn::NotYet => show::text(b"not yet"),
+        Worn::Yes => show::text(rt, b"yes"),
+        Worn::No => show::text(rt, b"no"),
+        Worn::NotYet => show::text(rt, b"not yet"),
         Worn::Refused(number) => {
-            show::text(b"refused ");
-            show::byte(number);
+            show::text(rt, b"refused ");
+            show::byte(rt, number);
         }
     }
 }
 
 // ---- the calls
 
-fn started(words: &[u8], begun: Begun) {
-    show::text(words);
-    show::byte(begun.number);
+fn started(rt: &impl Print, words: &[u8], begun: Begun) {
+    show::text(rt, words);
+    show::byte(rt, begun.number);
     let q = begun.question;
-    question(q);
+    question(rt, q);
 }
 
 pub fn start(
+    rt: &impl Print,
     name: &[u8],
     left: u8,
     right: u8,
@@ -63,12 +64,12 @@ pub fn start(
     rows: usize,
     limit: u64,
 ) -> Rod {
-    show::text(name);
+    show::text(rt, name);
     let begun = worn::start(left, right, up, down, width, rows, limit);
-    started(b": ", begun);
+    started(rt, b": ", begun);
     let linked = firmware::kelafshir_worn_start(left, right, up, down, width, rows, limit);
-    started(b"; from C ", linked);
-    show::text(b"\n");
+    started(rt, b"; from C ", linked);
+    show::text(rt, b"\n");
     let own = begun.question;
     let from_c = linked.question;
     Rod {
@@ -77,35 +78,35 @@ pub fn start(
     }
 }
 
-fn pair_own(q: Question, closed: &[u8], input: &[u8]) -> Question {
+fn pair_own(rt: &impl Print, q: Question, closed: &[u8], input: &[u8]) -> Question {
     let asked = worn::pair(q, closed, input);
-    show::text(b": ");
+    show::text(rt, b": ");
     let answer = asked.answer;
-    said(answer);
+    said(rt, answer);
     let after = asked.question;
-    question(after);
+    question(rt, after);
     after
 }
 
-fn pair_from_c(q: Question, closed: &[u8], input: &[u8]) -> Question {
+fn pair_from_c(rt: &impl Print, q: Question, closed: &[u8], input: &[u8]) -> Question {
     let told = firmware::kelafshir_worn_pair(q, closed, input);
-    show::text(b"; from C ");
-    show::byte(told.number);
-    show::text(b" and ");
-    show::byte(told.answer);
+    show::text(rt, b"; from C ");
+    show::byte(rt, told.number);
+    show::text(rt, b" and ");
+    show::byte(rt, told.answer);
     let after = told.question;
-    question(after);
-    show::text(b"\n");
+    question(rt, after);
+    show::text(rt, b"\n");
     after
 }
 
 // A pair whose rows are named.
-pub fn named_pair(rod: Rod, name: &[u8], closed: &[u8], input: &[u8]) -> Rod {
-    show::text(name);
+pub fn named_pair(rt: &impl Print, rod: Rod, name: &[u8], closed: &[u8], input: &[u8]) -> Rod {
+    show::text(rt, name);
     let own = rod.own;
     let from_c = rod.from_c;
-    let own_after = pair_own(own, closed, input);
-    let from_c_after = pair_from_c(from_c, closed, input);
+    let own_after = pair_own(rt, own, closed, input);
+    let from_c_after = pair_from_c(rt, from_c, closed, input);
     Rod {
         own: own_after,
         from_c: from_c_after,
@@ -113,15 +114,15 @@ pub fn named_pair(rod: Rod, name: &[u8], closed: &[u8], input: &[u8]) -> Rod {
 }
 
 // A pair whose rows are shown.
-pub fn pair(rod: Rod, closed: &[u8], input: &[u8]) -> Rod {
-    show::bytes(b"closed", closed);
-    show::bytes(b", input", input);
-    named_pair(rod, b"", closed, input)
+pub fn pair(rt: &impl Print, rod: Rod, closed: &[u8], input: &[u8]) -> Rod {
+    show::bytes(rt, b"closed", closed);
+    show::bytes(rt, b", input", input);
+    named_pair(rt, rod, b"", closed, input)
 }
 
 // A pair on a question that no call made.
-pub fn state(name: &[u8], q: Question, closed: &[u8], input: &[u8]) {
-    show::text(name);
-    show::text(b", ");
-    pair(Rod { own: q, from_c: q }, closed, input);
+pub fn state(rt: &impl Print, name: &[u8], q: Question, closed: &[u8], input: &[u8]) {
+    show::text(rt, name);
+    show::text(rt, b", ");
+    pair(rt, Rod { own: q, from_c: q }, closed, input);
 }

@@ -1,111 +1,110 @@
 // What the test programs write: words, numbers, floats by their bytes, and what a call answers.
 #![tactic(auto)]
 
-use libc::STDOUT_FILENO;
 use morph::Kind;
 use picture::{Answer, Ending, Started, State};
 use plan_record::{Plan, Stage};
 
-pub fn text(t: &[u8]) {
-    io::write_all(STDOUT_FILENO, t);
+pub fn text(rt: &impl Print, t: &[u8]) {
+    let _ = rt.write_all(t);
 }
 
-pub fn number(n: usize) {
-    io::print_decimal(STDOUT_FILENO, n as u64);
+pub fn number(rt: &impl Print, n: usize) {
+    let _ = rt.print(n);
 }
 
-pub fn byte(n: u8) {
-    io::print_decimal(STDOUT_FILENO, n as u64);
+pub fn byte(rt: &impl Print, n: u8) {
+    let _ = rt.print(n);
 }
 
-pub fn position(n: u16) {
-    io::print_decimal(STDOUT_FILENO, n as u64);
+pub fn position(rt: &impl Print, n: u16) {
+    let _ = rt.print(n);
 }
 
-fn hex(b: u8) {
-    io::print_hex(STDOUT_FILENO, b as u64, 2);
+fn hex(rt: &impl Print, b: u8) {
+    let _ = print!(rt; "{b:02x}");
 }
 
 // A float by its four bytes, high byte first.
-pub fn float(x: f32) {
+pub fn float(rt: &impl Print, x: f32) {
     let mut bytes = [0u8; 4];
     sample::rate::to_bytes(x, &mut bytes, 0);
-    hex(bytes[3]);
-    hex(bytes[2]);
-    hex(bytes[1]);
-    hex(bytes[0]);
+    hex(rt, bytes[3]);
+    hex(rt, bytes[2]);
+    hex(rt, bytes[1]);
+    hex(rt, bytes[0]);
 }
 
 // What a step that gave no value says.
-pub fn not_yet(comparisons: usize) {
-    text(b"not yet, comparisons ");
-    number(comparisons);
+pub fn not_yet(rt: &impl Print, comparisons: usize) {
+    text(rt, b"not yet, comparisons ");
+    number(rt, comparisons);
 }
 
-pub fn refused(no: u8, place: usize) {
-    text(b"refused ");
-    byte(no);
-    text(b" at ");
-    number(place);
+pub fn refused(rt: &impl Print, no: u8, place: usize) {
+    text(rt, b"refused ");
+    byte(rt, no);
+    text(rt, b" at ");
+    number(rt, place);
 }
 
 // A picture's start.
-pub fn started(name: &[u8], s: Started) {
-    text(b"picture start, ");
-    text(name);
-    text(b": ");
-    byte(s.number);
-    text(b"\n");
+pub fn started(rt: &impl Print, name: &[u8], s: Started) {
+    text(rt, b"picture start, ");
+    text(rt, name);
+    text(rt, b": ");
+    byte(rt, s.number);
+    text(rt, b"\n");
 }
 
 // A picture's step.
-pub fn answer(a: Answer) {
+pub fn answer(rt: &impl Print, a: Answer) {
     match a {
         Answer::Row {
             number,
             comparisons,
         } => {
-            text(b"row ");
-            crate::number(number);
-            text(b", comparisons ");
-            crate::number(comparisons);
+            text(rt, b"row ");
+            crate::number(rt, number);
+            text(rt, b", comparisons ");
+            crate::number(rt, comparisons);
         }
         Answer::NotYet { comparisons } => {
-            not_yet(comparisons);
+            not_yet(rt, comparisons);
         }
         Answer::Refused { number, column } => {
-            refused(number, column);
+            refused(rt, number, column);
         }
     }
 }
 
 // ---- a run's state
 
-fn ending(e: Ending) {
+fn ending(rt: &impl Print, e: Ending) {
     match e {
         Ending::Fixed => {
-            text(b"; fixed, sample ");
+            text(rt, b"; fixed, sample ");
         }
         Ending::Open => {
-            text(b"; open, sample ");
+            text(rt, b"; open, sample ");
         }
         Ending::Stopped => {
-            text(b"; stopped, sample ");
+            text(rt, b"; stopped, sample ");
         }
     }
 }
 
 // The state's fields but for the plan.
-pub fn state(s: State) {
+pub fn state(rt: &impl Print, s: State) {
     let e = s.ending;
-    ending(e);
-    byte(s.sample);
-    text(b", width ");
-    number(s.width);
-    text(b", rows ");
-    number(s.rows);
-    text(b", step ");
-    number(s.step);
+    ending(rt, e);
+    byte(rt, s.sample);
+    text(rt, b", width ");
+    number(rt, s.width);
+    text(rt, b", rows ");
+    number(rt, s.rows);
+    text(rt, b", step ");
+    number(rt, s.step);
 }
 
 fn kind_number(k: Kind) -> u8 {
@@ -115,71 +114,71 @@ fn kind_number(k: Kind) -> u8 {
     }
 }
 
-fn next_byte(n: u8) {
-    text(b" ");
-    byte(n);
+fn next_byte(rt: &impl Print, n: u8) {
+    text(rt, b" ");
+    byte(rt, n);
 }
 
-fn stage(s: Stage) {
+fn stage(rt: &impl Print, s: Stage) {
     let k = s.kind;
-    next_byte(kind_number(k));
-    next_byte(s.left);
-    next_byte(s.right);
-    next_byte(s.up);
-    next_byte(s.down);
+    next_byte(rt, kind_number(k));
+    next_byte(rt, s.left);
+    next_byte(rt, s.right);
+    next_byte(rt, s.up);
+    next_byte(rt, s.down);
 }
 
 // All 16 places of a plan, and how many of them are its stages.
-pub fn plan(plan: Plan) {
-    text(b"; plan of ");
-    number(plan.count);
-    text(b":");
+pub fn plan(rt: &impl Print, plan: Plan) {
+    text(rt, b"; plan of ");
+    number(rt, plan.count);
+    text(rt, b":");
     let mut i = 0;
     while i < 16 {
         let s = plan.stages[i];
-        stage(s);
+        stage(rt, s);
         i += 1;
     }
 }
 
 // ---- rows, under a name
 
-pub fn bytes(name: &[u8], row: &[u8]) {
-    text(name);
+pub fn bytes(rt: &impl Print, name: &[u8], row: &[u8]) {
+    text(rt, name);
     let mut i = 0;
     while i < row.len() {
-        text(b" ");
-        byte(row[i]);
+        text(rt, b" ");
+        byte(rt, row[i]);
         i += 1;
     }
 }
 
-pub fn floats(name: &[u8], row: &[f32]) {
-    text(name);
+pub fn floats(rt: &impl Print, name: &[u8], row: &[f32]) {
+    text(rt, name);
     let mut i = 0;
     while i < row.len() {
-        text(b" ");
-        float(row[i]);
+        text(rt, b" ");
+        float(rt, row[i]);
         i += 1;
     }
 }
 
-pub fn positions(name: &[u8], row: &[u16]) {
-    text(name);
+pub fn positions(rt: &impl Print, name: &[u8], row: &[u16]) {
+    text(rt, name);
     let mut i = 0;
     while i < row.len() {
-        text(b" ");
-        position(row[i]);
+        text(rt, b" ");
+        position(rt, row[i]);
         i += 1;
     }
 }
 
-pub fn numbers(name: &[u8], row: &[usize]) {
-    text(name);
+pub fn numbers(rt: &impl Print, name: &[u8], row: &[usize]) {
+    text(rt, name);
     let mut i = 0;
     while i < row.len() {
-        text(b" ");
-        number(row[i]);
+        text(rt, b" ");
+        number(rt, row[i]);
         i += 1;
     }
 }

@@ -3,21 +3,19 @@ use crate::files;
 use program::{input_of, standard_output};
 
 // Runs job n, and says whether there is one.
-fn one(n: u8) -> bool {
-    let from = files::open(b'j', n);
-    if from < 0 {
+fn one(rt: &HostRuntime, n: u8) -> bool {
+    let Some(from) = files::open(rt, b'j', n) else {
         return false;
-    }
-    show::text(b"\n");
-    program::run(input_of(from), standard_output());
-    show::text(b"\n");
-    libc::close(from);
+    };
+    show::text(rt, b"\n");
+    program::run(rt, input_of(from), standard_output(rt));
+    show::text(rt, b"\n");
     true
 }
 
-pub fn all() {
+pub fn all(rt: &HostRuntime) {
     let mut n: u8 = 0;
-    while n < 255 && one(n) {
+    while n < 255 && one(rt, n) {
         n += 1;
     }
 }

@@ -10,19 +10,19 @@ mod jobs; // jobs.rt: whole jobs
 mod rate; // rate.rt: lines of floats
 mod rate_lines; // rate_lines.rt: whole lines of floats
 
-fn main() {
-    grey::starts();
-    grey::line_p();
-    grey::out_of_turn();
-    rate::starts();
-    rate::case_12();
-    rate::zeros();
-    firm::rows();
-    firm::refusals();
-    show::text(b"lines\n");
-    grey_lines::all();
-    grey_lines::longest();
-    rate_lines::all();
-    show::text(b"jobs\n");
-    jobs::all();
+fn main(rt: HostRuntime) {
+    grey::starts(&rt);
+    grey::line_p(&rt);
+    grey::out_of_turn(&rt);
+    rate::starts(&rt);
+    rate::case_12(&rt);
+    rate::zeros(&rt);
+    firm::rows(&rt);
+    firm::refusals(&rt);
+    show::text(&rt, b"lines\n");
+    grey_lines::all(&rt);
+    grey_lines::longest(&rt);
+    rate_lines::all(&rt);
+    show::text(&rt, b"jobs\n");
+    jobs::all(&rt);
 }

@@ -2,9 +2,11 @@
 // the position that gave it, or `-` where there is none yet; the last drain is refused. A float is shown by its four bytes, high byte first.
 use crate::files;
 use line::rate::{Answer, Line};
+use std::io::Read;
+use std::rt::Files;
 
 // Shows an answer, and says whether it is a line's: a refusal is not.
-fn told(a: Answer) -> bool {
+fn told(rt: &impl Print, a: Answer) -> bool {
     match a {
         Answer::Pixel {
             value,
@@ -12,49 +14,49 @@ fn told(a: Answer) -> bool {
             number,
             comparisons,
         } => {
-            show::text(b" ");
-            show::float(value);
-            show::text(b"@");
-            show::number(position);
+            show::text(rt, b" ");
+            show::float(rt, value);
+            show::text(rt, b"@");
+            show::number(rt, position);
             true
         }
         Answer::NotYet { comparisons } => {
-            show::text(b" -");
+            show::text(rt, b" -");
             true
         }
         Answer::Refused { number, position } => {
-            show::text(b", refused ");
-            show::byte(number);
+            show::text(rt, b", refused ");
+            show::byte(rt, number);
             false
         }
     }
 }
 
-fn read(l: Line, v: f32) -> Line {
+fn read(rt: &impl Print, l: Line, v: f32) -> Line {
     let s = line::rate::read(l, v);
     let a = s.answer;
-    told(a);
+    told(rt, a);
     s.line
 }
 
-fn reads(l: Line, from: i32, pixels: usize) -> Line {
+fn reads(rt: &impl Print, l: Line, from: &mut impl Read, pixels: usize) -> Line {
     let mut next = l;
     let mut left = pixels;
     while 0 < left {
-        next = read(next, files::float(from));
+        next = read(rt, next, files::float(from));
         left -= 1;
     }
     next
 }
 
 // Drains up to the first that is refused: no line has over 31.
-fn drains(l: Line) {
+fn drains(rt: &impl Print, l: Line) {
     let mut next = l;
     let mut left: u8 = 32;
     while 0 < left {
         let s = line::rate::drain(next);
         let a = s.answer;
-        if !told(a) {
+        if !told(rt, a) {
             return;
         }
         next = s.line;
@@ -63,27 +65,25 @@ fn drains(l: Line) {
 }
 
 // Runs line n, and says whether there is one.
-fn one(n: u8) -> bool {
-    let from = files::open(b'r', n);
-    if from < 0 {
+fn one(rt: &(impl Print + Files), n: u8) -> bool {
+    let Some(mut from) = files::open(rt, b'r', n) else {
         return false;
-    }
-    show::text(b":");
-    let kind = files::byte(from);
-    let left = files::byte(from);
-    let right = files::byte(from);
-    let pixels = files::number(from);
+    };
+    show::text(rt, b":");
+    let kind = files::byte(&mut from);
+    let left = files::byte(&mut from);
+    let right = files::byte(&mut from);
+    let pixels = files::number(&mut from);
     let s = line::rate::start(kind, left, right, pixels);
     let l = s.line;
-    drains(reads(l, from, pixels));
-    show::text(b"\n");
-    libc::close(from);
+    drains(rt, reads(rt, l, &mut from, pixels));
+    show::text(rt, b"\n");
     true
 }
 
-pub fn all() {
+pub fn all(rt: &(impl Print + Files)) {
     let mut n: u8 = 0;
-    while n < 255 && one(n) {
+    while n < 255 && one(rt, n) {
         n += 1;
     }
 }

@@ -1,10 +1,9 @@
--- Each round writes a byte or ends.
-use Prim.Native.Nat.{◌-◌, ◌≤◌}
-use lib.ListN.{length}
+-- No more bytes were taken than there are, and each turn has one taken at least.
+use Rattle.std.proofs.Common.{length, ◌-◌, ◌≤◌}
 use Rattle.descriptors.proofs.write_whole.Given as goal
 
 abbrev pub invariant-loop-done : goal.invariant-loop-done
-invariant-loop-done l = l.done ≤ length l.bytes
+invariant-loop-done g l = l.done ≤ length l.bytes
 
 abbrev pub decreases-loop-done : goal.decreases-loop-done
-decreases-loop-done l = length l.bytes - l.done
+decreases-loop-done g l = length l.bytes - l.done

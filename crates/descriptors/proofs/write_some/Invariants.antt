@@ -1,8 +1,0 @@
--- Each try leaves one fewer; the answer is what the last write told.
-use Rattle.descriptors.proofs.write_some.Given as goal
-
-abbrev pub invariant-loop-left : goal.invariant-loop-left
-invariant-loop-left l = Unit {0}
-
-abbrev pub decreases-loop-left : goal.decreases-loop-left
-decreases-loop-left l = l.left
