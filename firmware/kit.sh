@@ -51,6 +51,6 @@ program() { # NAME FILE: builds $made/NAME over the archive
 }
 guarded() { # WHAT COMMAND..: the command does WHAT, and has to die of it: of the fault SIGSEGV, which is status 139, and of nothing else
     what=$1; shift
-    status=0; ("$@") >$made/beyond 2>&1 || status=$?
+    status=0; ("$@"; exit $?) >$made/beyond 2>&1 || status=$?
     [ $status -eq 139 ] || { echo "$what, and the run ends with $status and not with the fault, 139:"; sed -n l $made/beyond; exit 1; }
 }

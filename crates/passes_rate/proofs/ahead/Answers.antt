@@ -1,0 +1,18 @@
+-- The front takes the better of two, and the end is copied.
+use native.Mathlib.Omega.{arith}
+use lib.ListN.{length-take}
+use lib.Ieee.{nan}
+use Rattle.passes.proofs.Pass.{ahead_made}
+use Rattle.passes_rate.proofs.ahead.Goals as goal
+
+pub slice_bounds-pair-end-2 : goal.slice_bounds-pair-end-2
+slice_bounds-pair-end-2 c = rw length-take (omega arith)
+
+pub pair-requires : goal.pair-requires
+pair-requires c = rw length-take (omega arith)
+
+pub returns : goal.returns
+returns c =
+    let r = c in
+    let e = c.less-end in
+    ahead_made nan _ r.args.s r.args.row.now r.args.out.now _ _ e.result r.requires e.ensures c.pair.ensures c.copy.ensures

@@ -1,0 +1,14 @@
+-- The slice that the flag names has reached r ahead.
+use mathlib.Core.Path.{◌≡◌}
+use Prim.Native.Nat.{◌-◌, ◌≤◌}
+use lib.ListN.{length}
+use Rattle.morph.specs.Order.{order_of}
+use Rattle.morph.specs.Rate.{rate}
+use Rattle.passes.specs.Inner.{held, Reached}
+use Rattle.passes_rate.proofs.line_ahead.Given as goal
+
+abbrev pub invariant-loop-r : goal.invariant-loop-r
+invariant-loop-r l = (length l.a ≡ length l.initial.a) × (length l.t ≡ length l.initial.a) × (l.r ≤ l.far) × Reached (order_of l.kind rate) 1 0 l.r l.initial.a (held l.flip l.a l.t)
+
+abbrev pub decreases-loop-r : goal.decreases-loop-r
+decreases-loop-r l = l.far - l.r

@@ -1,0 +1,15 @@
+-- The slice that the flag names has reached r back.
+use mathlib.Core.Path.{◌≡◌}
+use Prim.Native.Nat.{◌-◌, ◌≤◌}
+use lib.ListN.{length}
+use Rattle.morph.specs.Order.{order_of}
+use Rattle.morph.specs.Rate.{rate}
+use Rattle.laws.specs.Laws.{Taken}
+use Rattle.passes.specs.Inner.{held, ThenBack}
+use Rattle.passes_rate.proofs.line_back.Given as goal
+
+abbrev pub invariant-loop-r : goal.invariant-loop-r
+invariant-loop-r l = (length l.a ≡ length l.initial.a) × (length l.t ≡ length l.initial.a) × (l.r ≤ l.far) × ThenBack (order_of l.kind rate) Taken 1 l.r l.ahead (held l.turn l.initial.a l.initial.t) (held l.flip l.a l.t)
+
+abbrev pub decreases-loop-r : goal.decreases-loop-r
+decreases-loop-r l = l.far - l.r
