@@ -37,7 +37,7 @@ line-requires c =
 pub loop-y-preserved : goal.loop-y-preserved
 loop-y-preserved c =
     let l = c.loop-y in
-    (cross_next _ _ _ _ _ _ l.y l.picture l.invariant.0 (omega arith) _ _ refl c.line.ensures, used_again _ _ l.row c.line.new.1.1.1.1.0 c.requires.1 c.row-1.given.1 l.invariant.1)
+    (cross_next _ _ _ _ _ _ l.y l.picture l.invariant.0 (omega arith) _ _ refl c.line.ensures, used_again _ _ l.row c.line.new.t c.requires.1 c.row-1.given.1 l.invariant.1)
 
 pub shape_of-picture : goal.shape_of-picture
 shape_of-picture c = c.loop-y.invariant.0.long
