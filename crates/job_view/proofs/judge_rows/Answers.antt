@@ -24,17 +24,13 @@ returns-then-i-j c =
 pub returns-then-there_to : goal.returns-then-there_to
 unfolding view_number
 returns-then-there_to c =
-    let at-if2 = c in
-    let start = at-if2 in
-    let a = start.args in
+    let a = c.args in
     let l : a.i < a.j = omega (arith, c.if-i-j.false) in
-    simp (le-ltb a.j a.i at-if2.if-j-i.false, le-ltb a.job.rows a.j at-if2.if-job-j.false, lt-ltb a.i a.j l, sym c.there_to.ensures ∙ c.if-there_to.true)
+    simp (le-ltb a.j a.i c.if-j-i.false, le-ltb a.job.rows a.j c.if-job-j.false, lt-ltb a.i a.j l, sym c.there_to.ensures ∙ c.if-there_to.true)
 
 pub returns : goal.returns
 unfolding view_number
 returns c =
-    let at-if2 = c in
-    let start = at-if2 in
-    let a = start.args in
+    let a = c.args in
     let l : a.i < a.j = omega (arith, c.if-i-j.false) in
-    simp (le-ltb a.j a.i at-if2.if-j-i.false, le-ltb a.job.rows a.j at-if2.if-job-j.false, lt-ltb a.i a.j l, sym c.there_to.ensures ∙ c.if-there_to.false)
+    simp (le-ltb a.j a.i c.if-j-i.false, le-ltb a.job.rows a.j c.if-job-j.false, lt-ltb a.i a.j l, sym c.there_to.ensures ∙ c.if-there_to.false)

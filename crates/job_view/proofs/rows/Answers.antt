@@ -6,15 +6,14 @@ use Rattle.job_read.specs.Layout.{row_bytes}
 use Rattle.job_view.proofs.Viewing.{there, Placed, placed, view_refused, view_none, view_part}
 use native.Mathlib.Omega.{arith}
 use Rattle.job_view.proofs.rows.Goals as goal
+use Rattle.job_view.proofs.rows.Goals.{After-struct_known-1}
 
 -- after the last test the rows are there, and so their ends are within the bytes
-here : (c : goal.After-struct_known-1) → Placed (length c.args.bytes.now) c.args.job.at c.args.i c.args.j (c.args.job.width * c.sample_bytes.result)
+here : (c : After-struct_known-1) → Placed (length c.args.bytes.now) c.args.job.at c.args.i c.args.j (c.args.job.width * c.sample_bytes.result)
 here c =
-    let at-if1 = c in
-    let start = at-if1 in
-    let a = start.args in
+    let a = c.args in
     placed (a.job.width * c.sample_bytes.result) (ap (λ (k : ℕ). a.job.width * k) c.sample_bytes.ensures.0)
-    (there start.args.bytes.now start.args.job start.args.i start.args.j (sym at-if1.judge_rows.ensures ∙ at-if1.if-judge_rows-ne0.false) c.if-i-j.false)
+    (there c.args.bytes.now c.args.job c.args.i c.args.j (sym c.judge_rows.ensures ∙ c.if-judge_rows-ne0.false) c.if-i-j.false)
 
 pub returns-then-judge_rows-ne0 : goal.returns-then-judge_rows-ne0
 returns-then-judge_rows-ne0 c =
@@ -23,9 +22,8 @@ returns-then-judge_rows-ne0 c =
 
 pub returns-then-i-j : goal.returns-then-i-j
 returns-then-i-j c =
-    let at-judge-rows = c in
-    let a = at-judge-rows.args in
-    view_none a.bytes.now a.job a.i a.j at-judge-rows.judge_rows.ensures c.if-judge_rows-ne0.false c.if-i-j.true
+    let a = c.args in
+    view_none a.bytes.now a.job a.i a.j c.judge_rows.ensures c.if-judge_rows-ne0.false c.if-i-j.true
 
 pub overflow_mul-size : goal.overflow_mul-size
 overflow_mul-size c = let p = here c in omega arith
@@ -53,8 +51,6 @@ slice_bounds-result-end-2 c = let p = here c in omega arith
 
 pub returns : goal.returns
 returns c =
-    let at-if1 = c in
-    let start = at-if1 in
-    let a = start.args in
+    let a = c.args in
     let e : a.job.width * c.sample_bytes.result ≡ row_bytes a.job = ap (λ (k : ℕ). a.job.width * k) c.sample_bytes.ensures.0 in
-    view_part start.args.bytes.now start.args.job start.args.i start.args.j at-if1.judge_rows.ensures at-if1.if-judge_rows-ne0.false (ap (λ (k : ℕ). a.job.at + a.i * k) e) (ap (λ (k : ℕ). a.job.at + a.j * k) e)
+    view_part c.args.bytes.now c.args.job c.args.i c.args.j c.judge_rows.ensures c.if-judge_rows-ne0.false (ap (λ (k : ℕ). a.job.at + a.i * k) e) (ap (λ (k : ℕ). a.job.at + a.j * k) e)

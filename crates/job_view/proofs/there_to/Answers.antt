@@ -20,18 +20,14 @@ returns-then-bytes-at c =
 pub overflow_mul-j : goal.overflow_mul-j
 overflow_mul-j c =
     let a = c.args in
-    let l : a.j * a.job.width ≤ length a.bytes.now - a.job.at = leb-true _ _ (sym c.fits2.ensures ∙ c.if-fits.true) in omega arith
+    let l : a.j * a.job.width ≤ length a.bytes.now - a.job.at = leb-true _ _ (sym c.fits.ensures ∙ c.if-fits.true) in omega arith
 
 pub returns-then-fits : goal.returns-then-fits
 returns-then-fits c =
-    let at-if2 = c in
-    let start = at-if2 in
-    let a = start.args in
-    there_exact a.bytes.now a.job a.j at-if2.if-job-gt1.false at-if2.if-bytes-at.false c.sample_bytes.ensures.0 c.sample_bytes.ensures.1 c.fits3.ensures
+    let a = c.args in
+    there_exact a.bytes.now a.job a.j c.if-job-gt1.false c.if-bytes-at.false c.sample_bytes.ensures.0 c.sample_bytes.ensures.1 c.fits-then-fits.ensures
 
 pub returns : goal.returns
 returns c =
-    let at-if1 = c in
-    let start = at-if1 in
-    let a = start.args in
-    there_short a.bytes.now a.job a.j at-if1.if-job-gt1.false c.if-bytes-at.false refl (some_bytes a.job.sample) c.fits2.ensures c.if-fits.false
+    let a = c.args in
+    there_short a.bytes.now a.job a.j c.if-job-gt1.false c.if-bytes-at.false refl (some_bytes a.job.sample) c.fits.ensures c.if-fits.false
