@@ -7,7 +7,5 @@ use Rattle.job_write.proofs.write_stage.Goals as goal
 
 pub returns : goal.returns
 returns c =
-    let at-kind-byte = c in
-    let start = at-kind-byte in
-    let a = start.args in
-    c.write_five.ensures ∙ ap (λ (k : ℕ). sets a.out.now a.at (k ∷ a.stage.left ∷ a.stage.right ∷ a.stage.up ∷ a.stage.down ∷ [])) at-kind-byte.kind_byte.ensures
+    let a = c.args in
+    c.write_five.ensures ∙ ap (λ (k : ℕ). sets a.out.now a.at (k ∷ a.stage.left ∷ a.stage.right ∷ a.stage.up ∷ a.stage.down ∷ [])) c.kind_byte.ensures

@@ -1,6 +1,6 @@
 -- The stages so far stand one after the other.
 use mathlib.Core.Path.{◌≡◌, refl, ap, ◌∙◌}
-use Prim.Native.Nat.{ℕ, ◌+◌, ◌-◌}
+use Prim.Native.Nat.{ℕ, ◌+◌}
 use lib.ListN.{length, take}
 use lib.Seq.{sets, length-sets}
 use Rattle.job_read.specs.Layout.{stages_bytes}
@@ -13,17 +13,14 @@ loop-i-init c = (omega arith, refl, refl)
 
 pub loop-i-preserved : goal.loop-i-preserved
 loop-i-preserved c =
-    let at-loop = c in
-    let start = at-loop in
-    let l : length start.args.plan.stages ≡ 16 = start.well_formed.0.1.1.1.0.1.0.1 in
-    let e = stages_next start.args.out.now start.args.plan.stages at-loop.loop-i.i _ _ (omega arith) refl at-loop.loop-i.invariant.1 c.write_stage.ensures in
-    (omega arith, e, ap length e ∙ length-sets start.args.out.now 1 (stages_bytes (take (at-loop.loop-i.i + 1) start.args.plan.stages)))
+    let l : length c.args.plan.stages ≡ 16 = c.well_formed.0.1.1.1.0.1.0.1 in
+    let e = stages_next c.args.out.now c.args.plan.stages c.loop-i.i _ _ (omega arith) refl c.loop-i.invariant.1 c.write_stage.ensures in
+    (omega arith, e, ap length e ∙ length-sets c.args.out.now 1 (stages_bytes (take (c.loop-i.i + 1) c.args.plan.stages)))
 
 pub shape_of-out : goal.shape_of-out
 shape_of-out c = c.loop-i.invariant.2
 
 pub returns : goal.returns
 returns c =
-    let start = c in
-    let e : c.loop-i.i ≡ start.args.plan.count = omega arith in
-    c.loop-i.invariant.1 ∙ ap (λ (n : ℕ). sets start.args.out.now 1 (stages_bytes (take n start.args.plan.stages))) e
+    let e : c.loop-i.i ≡ c.args.plan.count = omega arith in
+    c.loop-i.invariant.1 ∙ ap (λ (n : ℕ). sets c.args.out.now 1 (stages_bytes (take n c.args.plan.stages))) e
