@@ -125,10 +125,11 @@ fn places<'a>(
     starts: &'a [u8],
     lengths: &'a [u8],
 ) {
-    let mut left = c.x;
     let mut k = c.c;
-    while 0 < left && place(rt, state, c.a, c.b, k, values, positions, starts, lengths) {
-        left -= 1;
+    for _ in 0..c.x {
+        if !place(rt, state, c.a, c.b, k, values, positions, starts, lengths) {
+            return;
+        }
         k = belt::next(k);
     }
 }

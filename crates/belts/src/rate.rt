@@ -41,10 +41,8 @@ fn pixel(given: &[u8], at: usize) -> f32
 fn pixels(given: &[u8], count: usize, room: &mut [f32; 1024]) -> usize
     ensures { (result ≤ length room.new) × (result ≡ length (take result room.new)) }
 {
-    let mut i = 0;
-    while i < 1024 {
+    for i in 0..1024 {
         room[i] = pixel(given, i * 4);
-        i += 1;
     }
     of_floats(count, room)
 }
@@ -160,10 +158,11 @@ fn places<'a>(
     starts: &'a [u8],
     lengths: &'a [u8],
 ) {
-    let mut left = c.x;
     let mut k = c.c;
-    while 0 < left && place(rt, state, c.a, c.b, k, values, positions, starts, lengths) {
-        left -= 1;
+    for _ in 0..c.x {
+        if !place(rt, state, c.a, c.b, k, values, positions, starts, lengths) {
+            return;
+        }
         k = belt::next(k);
     }
 }

@@ -15,10 +15,8 @@ fn mixed(sum: usize, n: usize) -> usize
 
 fn of_bytes(bytes: &[u8], before: usize) -> usize {
     let mut sum = before;
-    let mut i = 0;
-    while i < bytes.len() {
-        sum = mixed(sum, wide(bytes[i]));
-        i += 1;
+    for each in bytes {
+        sum = mixed(sum, wide(*each));
     }
     sum
 }
@@ -34,10 +32,8 @@ fn pattern(x: f32) -> usize
 
 fn of_floats(row: &[f32], before: usize) -> usize {
     let mut sum = before;
-    let mut i = 0;
-    while i < row.len() {
-        sum = mixed(sum, pattern(row[i]));
-        i += 1;
+    for each in row {
+        sum = mixed(sum, pattern(*each));
     }
     sum
 }

@@ -64,10 +64,8 @@ pub fn columns(rt: &impl Input, count: usize, room: &mut [u16]) -> usize
     ensures { (result ≤ length room.new) × (result ≡ length (take result room.new)) }
 {
     let n = up_to_positions(count, &room[..]);
-    let mut i = 0;
-    while i < n {
+    for i in 0..n {
         room[i] = next_column(rt);
-        i += 1;
     }
     up_to_positions(n, &room[..])
 }
@@ -76,10 +74,8 @@ pub fn rows(rt: &impl Input, count: usize, room: &mut [usize]) -> usize
     ensures { (result ≤ length room.new) × (result ≡ length (take result room.new)) }
 {
     let n = up_to_numbers(count, &room[..]);
-    let mut i = 0;
-    while i < n {
+    for i in 0..n {
         room[i] = next_row(rt);
-        i += 1;
     }
     up_to_numbers(n, &room[..])
 }
@@ -88,10 +84,8 @@ pub fn rates(rt: &impl Input, count: usize, room: &mut [f32]) -> usize
     ensures { (result ≤ length room.new) × (result ≡ length (take result room.new)) }
 {
     let n = up_to_floats(count, &room[..]);
-    let mut i = 0;
-    while i < n {
+    for i in 0..n {
         room[i] = next_rate(rt);
-        i += 1;
     }
     up_to_floats(n, &room[..])
 }

@@ -48,8 +48,9 @@ fn one(rt: &(impl Print + Input)) -> bool {
 }
 
 fn main(rt: HostRuntime) {
-    let mut left: u32 = 4294967295;
-    while 0 < left && one(&rt) {
-        left -= 1;
+    for _ in 0..u32::MAX {
+        if !one(&rt) {
+            return;
+        }
     }
 }

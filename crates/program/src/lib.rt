@@ -150,11 +150,11 @@ pub fn run<H: Clock + Eprint>(rt: &H, mut from: Input, mut to: Output) -> Went
     let mut frame = frame();
     let mut row = floats();
     let mut came = floats();
-    let mut greys = buffer();
+    let mut greys = cells();
     let mut rates = floats();
     let mut positions = positions();
-    let mut starts = buffer();
-    let mut lengths = buffer();
+    let mut starts = cells();
+    let mut lengths = cells();
     let mut total = 0;
     go(
         rt,
@@ -201,7 +201,7 @@ fn positions() -> [u8; 4096]
     [0; 4096]
 }
 
-fn buffer() -> [u8; 4096]
+fn cells() -> [u8; 4096]
     ensures { 4096 ≡ length result }
 {
     [0; 4096]

@@ -133,11 +133,8 @@ pub fn plan(rt: &impl Print, plan: Plan) {
     text(rt, b"; plan of ");
     number(rt, plan.count);
     text(rt, b":");
-    let mut i = 0;
-    while i < 16 {
-        let s = plan.stages[i];
-        stage(rt, s);
-        i += 1;
+    for each in &plan.stages {
+        stage(rt, *each);
     }
 }
 
@@ -145,40 +142,32 @@ pub fn plan(rt: &impl Print, plan: Plan) {
 
 pub fn bytes(rt: &impl Print, name: &[u8], row: &[u8]) {
     text(rt, name);
-    let mut i = 0;
-    while i < row.len() {
+    for each in row {
         text(rt, b" ");
-        byte(rt, row[i]);
-        i += 1;
+        byte(rt, *each);
     }
 }
 
 pub fn floats(rt: &impl Print, name: &[u8], row: &[f32]) {
     text(rt, name);
-    let mut i = 0;
-    while i < row.len() {
+    for each in row {
         text(rt, b" ");
-        float(rt, row[i]);
-        i += 1;
+        float(rt, *each);
     }
 }
 
 pub fn positions(rt: &impl Print, name: &[u8], row: &[u16]) {
     text(rt, name);
-    let mut i = 0;
-    while i < row.len() {
+    for each in row {
         text(rt, b" ");
-        position(rt, row[i]);
-        i += 1;
+        position(rt, *each);
     }
 }
 
 pub fn numbers(rt: &impl Print, name: &[u8], row: &[usize]) {
     text(rt, name);
-    let mut i = 0;
-    while i < row.len() {
+    for each in row {
         text(rt, b" ");
-        number(rt, row[i]);
-        i += 1;
+        number(rt, *each);
     }
 }

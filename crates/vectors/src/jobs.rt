@@ -14,8 +14,9 @@ fn one(rt: &HostRuntime, n: u8) -> bool {
 }
 
 pub fn all(rt: &HostRuntime) {
-    let mut n: u8 = 0;
-    while n < 255 && one(rt, n) {
-        n += 1;
+    for n in 0..255 {
+        if !one(rt, n) {
+            return;
+        }
     }
 }

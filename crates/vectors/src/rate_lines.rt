@@ -41,10 +41,8 @@ fn read(rt: &impl Print, l: Line, v: f32) -> Line {
 
 fn reads(rt: &impl Print, l: Line, from: &mut impl Read, pixels: usize) -> Line {
     let mut next = l;
-    let mut left = pixels;
-    while 0 < left {
+    for _ in 0..pixels {
         next = read(rt, next, files::float(from));
-        left -= 1;
     }
     next
 }
@@ -52,15 +50,13 @@ fn reads(rt: &impl Print, l: Line, from: &mut impl Read, pixels: usize) -> Line 
 // Drains up to the first that is refused: no line has over 31.
 fn drains(rt: &impl Print, l: Line) {
     let mut next = l;
-    let mut left: u8 = 32;
-    while 0 < left {
+    for _ in 0..32 {
         let s = line::rate::drain(next);
         let a = s.answer;
         if !told(rt, a) {
             return;
         }
         next = s.line;
-        left -= 1;
     }
 }
 
@@ -82,8 +78,9 @@ fn one(rt: &(impl Print + Files), n: u8) -> bool {
 }
 
 pub fn all(rt: &(impl Print + Files)) {
-    let mut n: u8 = 0;
-    while n < 255 && one(rt, n) {
-        n += 1;
+    for n in 0..255 {
+        if !one(rt, n) {
+            return;
+        }
     }
 }
