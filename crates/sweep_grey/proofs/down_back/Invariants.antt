@@ -1,0 +1,14 @@
+-- The picture has reached r back.
+use mathlib.Core.Path.{◌≡◌}
+use Prim.Native.Nat.{◌-◌, ◌≤◌}
+use lib.ListN.{length}
+use Rattle.morph.specs.Order.{order_of}
+use Rattle.morph.specs.Grey.{grey}
+use Rattle.passes.specs.Inner.{ThenBack, Any}
+use Rattle.sweep_grey.proofs.down_back.Given as goal
+
+abbrev pub invariant-loop-r : goal.invariant-loop-r
+invariant-loop-r l = (length l.picture ≡ length l.initial.picture) × (l.r ≤ l.far) × ThenBack (order_of l.kind grey) Any l.width l.r l.ahead l.initial.picture l.picture
+
+abbrev pub decreases-loop-r : goal.decreases-loop-r
+decreases-loop-r l = l.far - l.r
