@@ -1,6 +1,6 @@
 -- However a job's bytes are cut into groups, the turns put its answer. By which idea: each turn keeps what the machine means, and at the end nothing is left.
 use mathlib.Core.Path.{◌≡◌, refl, sym, ap, ◌∙◌}
-use mathlib.Core.Bool.{true, false, true≢false}
+use mathlib.Core.Bool.{true, true≢false}
 use mathlib.Core.List.{List, [], ◌++◌}
 use Prim.Native.Nat.{ℕ, ◌≤◌}
 use lib.ListN.{take}
