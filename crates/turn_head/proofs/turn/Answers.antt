@@ -1,0 +1,37 @@
+-- It waits, it is refused, or it begins.
+use mathlib.Core.Path.{sym, ap, ◌∙◌}
+use mathlib.Core.Logic.{◌⊎◌, ⊎_elim, inl, inr}
+use Prim.Native.Nat.{◌≤◌, ◌<◌}
+use native.Mathlib.Omega.{arith}
+use lib.ListN.{length}
+use Rattle.job_read.specs.Layout.{job_from}
+use Rattle.answer.specs.Answer.{opening_number}
+use Rattle.answer.specs.Inner.{head_wants_of}
+use Rattle.turn_head.proofs.Stays.{opened_job, waits, refuses}
+use Rattle.turn_head.proofs.turn.Goals as goal
+use Rattle.turn_head.proofs.turn.Goals.{Else-is_short}
+
+-- the head is settled
+stands_at : (c : Else-is_short) → length c.args.bytes.now < c.args.machine.wants ⊎ head_wants_of c.args.bytes.now ≤ length c.args.bytes.now
+stands_at c =
+    let e = c.head_wants-wanted.ensures.0 in
+    ⊎_elim (λ l. inl l) (λ w. inr (rw e at w)) (c.is_short.ensures.1 c.if-is_short.false)
+
+pub returns-then-is_short : goal.returns-then-is_short
+returns-then-is_short c =
+    let (a, b) = c.is_short.ensures.0 c.if-is_short.true in
+    waits c.args.machine c.args.bytes.now c.args.starts.now c.args.lengths.now c.args.frame.now c.pre.0 c.head_wants-wanted.result c.at_head.result c.at_head.ensures (omega (arith, a, b)) c.head_wants-wanted.ensures.1
+
+pub returns-then-opened-ne0 : goal.returns-then-opened-ne0
+returns-then-opened-ne0 c =
+    refuses c.args.machine c.args.bytes.now c.args.starts.now c.args.lengths.now _ c.pre.0 (stands_at (goal.at.returns-then-opened-ne0 c).Else-is_short) c.args.machine.state c.ended.result (ap (λ r. r.number) c.«open».ensures) c.if-opened-ne0.true c.ended.ensures
+
+pub begin-requires : goal.begin-requires
+begin-requires c =
+    let bytes = c.args.bytes.now in
+    let e = c.«open».ensures in
+    (sym (ap (λ r. r.number) e) ∙ c.if-opened-ne0.false, opened_job (opening_number bytes) (job_from bytes) e c.if-opened-ne0.false, omega arith, c.pre.2, c.pre.3)
+
+pub returns : goal.returns
+returns c =
+    c.begin.ensures c.args.machine c.pre.0
