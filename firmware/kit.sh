@@ -47,7 +47,7 @@ compile() { # LANGUAGE STANDARD FILE WORDS..
 program() { # NAME FILE: builds $made/NAME over the archive
     compile c c99 "$2" -Ifirmware -c -o $made/$1.o
     "$kit/bin/rattle-link" --target x86_64-unknown-linux-gnu --toolchain "$kit/toolchain" -o $made/$1 $made/$1.o \
-        target/staticlib/libfirmware.a 2>>$made/log
+        target/staticlib/libfirmware.a 2>>$made/log || { cat $made/log; exit 1; }
 }
 guarded() { # WHAT COMMAND..: the command does WHAT, and has to die of it: of the fault SIGSEGV, which is status 139, and of nothing else
     what=$1; shift
