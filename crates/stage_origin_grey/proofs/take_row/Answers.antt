@@ -11,15 +11,15 @@ use Rattle.origin.proofs.Stages.{ring_in, origins_taken}
 use Rattle.stage_origin_grey.proofs.take_row.Goals as goal
 use Rattle.stage_origin_grey.proofs.take_row.Goals.{After-size_of-places}
 
-abbrev width : After-size_of-places → ℕ
-width c = length c.args.row.now
-
 -- whichever row of the ring it is, its part is there, and its bounds are numbers of 64 bits
-module _ (c : tie.After-size-of) (n : ℕ) where
-  inside : n % c.type_size.result * width c + width c ≤ length (start c).args.columns.now
-  inside = ring_in _ _ n (start c).args.columns.now _ _ _ (omega arith) (lent_as _ _ _ _ _ _ _ c.type_size.ensures.0 refl (start c).requires.2) (start c).requires.4
+module _ (c : After-size_of-places) (n : ℕ) where
+  inside : n % c.size_of-places.result * length c.args.row.now + length c.args.row.now ≤ length c.args.columns.now
+  inside = ring_in _ _ n c.args.columns.now _ _ _ (omega arith) (lent_as _ _ _ _ _ _ _ c.size_of-places.ensures.0 refl c.requires.2) c.requires.4
 
-  fits : Fits w64 (n % c.type_size.result * width c) × Fits w64 (n % c.type_size.result * width c + width c) × Fits w64 (n % c.type_size.result * width c * 2)
+  fits :
+      Fits w64 (n % c.size_of-places.result * length c.args.row.now)
+      × Fits w64 (n % c.size_of-places.result * length c.args.row.now + length c.args.row.now)
+      × Fits w64 (n % c.size_of-places.result * length c.args.row.now * 2)
   fits = let i = inside in (omega arith, omega arith, omega arith)
 
 pub overflow_mul-lo : goal.overflow_mul-lo
@@ -29,14 +29,14 @@ pub overflow_add-hi : goal.overflow_add-hi
 overflow_add-hi c = (fits c _).1
 
 pub offset_bounds-columns-lo : goal.offset_bounds-columns-lo
-offset_bounds-columns-lo c = (fits c _).2
+offset_bounds-columns-lo c = (fits (goal.at.offset_bounds-columns-lo c).After-size_of-places _).2
 
 pub slice_bounds-across-end : goal.slice_bounds-across-end
-slice_bounds-across-end c = inside c _
+slice_bounds-across-end c = inside (goal.at.slice_bounds-across-end c).After-size_of-places _
 
 pub across-a-requires : goal.across-a-requires
 across-a-requires c =
-    let p = c.pre.0 in (
+    let p = c.requires.0 in (
       rw c.back_across.ensures.0 (back_small c.args.stage.kind _ _ p.left p.right),
       rw c.ahead_across.ensures.0 (ahead_small c.args.stage.kind _ _ p.left p.right),
       omega arith,
@@ -45,7 +45,7 @@ across-a-requires c =
 
 pub read_columns-c-requires : goal.read_columns-c-requires
 read_columns-c-requires c =
-    (lent_as _ _ _ _ _ _ _ c.size_of-places.ensures.0 c.across-a.ensures.across.long c.pre.2, c.pre.3, omega arith)
+    (lent_as _ _ _ _ _ _ _ c.size_of-places.ensures.0 c.across-a.ensures.across.long c.requires.2, c.requires.3, omega arith)
 
 pub returns : goal.returns
 returns c =
@@ -53,6 +53,6 @@ returns c =
     let e = c.size_of-places.ensures.0 in
     let lo = c.args.t % c.size_of-places.result * W in
     let k : lo + W - lo ≡ W = omega arith in
-    origins_taken greys _ _ _ _ _ _ _ _ _ _ _ _ c.pre.2 c.pre.4 (ap (λ n. c.args.t % n * W) e) k
+    origins_taken greys _ _ _ _ _ _ _ _ _ _ _ _ c.requires.2 c.requires.4 (ap (λ n. c.args.t % n * W) e) k
     (rw (c.back_across.ensures.0, c.ahead_across.ensures.0) at c.across-a.ensures)
     (rw e at c.read_columns-c.ensures)

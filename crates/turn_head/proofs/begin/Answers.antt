@@ -6,21 +6,21 @@ use Rattle.turn_head.proofs.begin.Goals as goal
 
 pub overflow_sub-end : goal.overflow_sub-end
 overflow_sub-end c =
-    (at_there c.args.bytes.now c.pre.0 c.pre.1).0
+    (at_there c.args.bytes.now c.requires.0 c.requires.1).0
 
 pub put_head-requires : goal.put_head-requires
 put_head-requires c =
-    let a = at_there c.args.bytes.now c.pre.0 c.pre.1 in
-    (omega arith, c.pre.2)
+    let a = at_there c.args.bytes.now c.requires.0 c.requires.1 in
+    (omega arith, c.requires.2)
 
 pub at_rows-requires : goal.at_rows-requires
 at_rows-requires c =
     let job = c.args.job in
-    let fit = fits c.args.bytes.now c.pre.0 c.pre.1 in
-    let e = started job fit c.args.starts.now c.args.lengths.now _ _ c.start-started.result c.pre.3 c.pre.4 c.start-started.ensures in
+    let fit = fits c.args.bytes.now c.requires.0 c.requires.1 in
+    let e = started job fit c.args.starts.now c.args.lengths.now _ _ c.start-started.result c.requires.3 c.requires.4 c.start-started.ensures in
     let (n, w, _) = first_small job fit in
     (rw e n, rw e w)
 
 pub returns : goal.returns
 returns c =
-    begins c.args.bytes.now c.pre.0 c.pre.1 c.args.starts.now c.args.lengths.now _ _ _ c.start-started.result c.at_rows.result c.pre.3 c.pre.4 (search rules) c.start-started.ensures c.put_head.ensures c.at_rows.ensures
+    begins c.args.bytes.now c.requires.0 c.requires.1 c.args.starts.now c.args.lengths.now _ _ _ c.start-started.result c.at_rows.result c.requires.3 c.requires.4 (search rules) c.start-started.ensures c.put_head.ensures c.at_rows.ensures

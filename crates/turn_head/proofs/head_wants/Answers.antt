@@ -37,7 +37,7 @@ overflow_add-end c = let m = most_at c in omega arith
 pub returns-then-section-ne0 : goal.returns-then-section-ne0
 returns-then-section-ne0 c =
     let s = section_number (c.args.bytes.now) c.plan_section-section.ensures in
-    (ap head_begins (same_at (goal.at.returns-then-section-ne0 c).After-wide-count) ∙ wants_stages (c.args.bytes.now) c.if-bytes-lt1.left (ap count_number (sym (same_at (goal.at.returns-then-section-ne0 c).After-wide-count)) ∙ few_at (goal.at.returns-then-section-ne0 c).Else-judge_count-ne0) (λ z. c.if-section-ne0.true (s ∙ z)), omega (arith, most_at (goal.at.returns-then-section-ne0 c).Else-judge_count-ne0))
+    (ap head_begins (same_at (goal.at.returns-then-section-ne0 c).After-wide-count) ∙ wants_stages (c.args.bytes.now) c.if-bytes-lt1.false (ap count_number (sym (same_at (goal.at.returns-then-section-ne0 c).After-wide-count)) ∙ few_at (goal.at.returns-then-section-ne0 c).Else-judge_count-ne0) (λ z. c.if-section-ne0.true (s ∙ z)), omega (arith, most_at (goal.at.returns-then-section-ne0 c).Else-judge_count-ne0))
 
 pub overflow_add-result : goal.overflow_add-result
 overflow_add-result c = let m = most_at (goal.at.overflow_add-result c).Else-judge_count-ne0 in omega arith

@@ -1,7 +1,6 @@
 -- The plan section, the image head, the cells.
 use mathlib.Core.Path.{◌≡◌, refl, sym, ap, ◌∙◌}
-use mathlib.Core.List.{List}
-use Prim.Native.Nat.{ℕ, ◌+◌, ◌*◌}
+use Prim.Native.Nat.{◌+◌, ◌*◌}
 use native.Mathlib.Omega.{arith}
 use lib.ListN.{get_or, drop}
 use Rattle.job_read.specs.declared.Head.{Head}
@@ -12,9 +11,6 @@ use Rattle.turn_head.proofs.Opens.{opening_plan, opening_head, opening_cells, op
 use Rattle.turn_head.proofs.open.Goals as goal
 use Rattle.turn_head.proofs.open.Goals.{After-struct_known-2-1, Else-head-ne0}
 
-abbrev bytes_at : After-struct_known-2-1 → List ℕ
-bytes_at c = c.args.bytes.now
-
 plan_at : (c : After-struct_known-2-1) → PlanRead (c.args.bytes.now) (c.plan_section-section.result)
 plan_at c = plan_read_law (c.args.bytes.now) c.plan_section-section.ensures c.if-section-ne0.false
 
@@ -23,12 +19,12 @@ head_at c = head_read (c.args.bytes.now) (1 + (c.plan_section-section.result).pl
 
 job_at : (c : Else-head-ne0) → (record { plan = (c.plan_section-section.result).plan; sample = (c.head_section-head.result).sample; width = (c.head_section-head.result).width; rows = (c.head_section-head.result).rows; at = (1 + (c.plan_section-section.result).plan.count * 5) + 5 }) ≡ job_from (c.args.bytes.now)
 job_at c =
-    let p = (plan_read_law (bytes_at c) c.plan_section-section.ensures c.if-section-ne0.false) in
+    let p = (plan_read_law (c.args.bytes.now) c.plan_section-section.ensures c.if-section-ne0.false) in
     let h = head_at c in
     same_job (c.args.bytes.now) p.plan p.end h.sample h.width h.rows refl
 
 head_zero : (c : Else-head-ne0) → head_section_number (c.args.bytes.now) (head_begins (get_or (c.args.bytes.now) 0 0)) ≡ 0
-head_zero c = ap (head_section_number (c.args.bytes.now)) (sym (plan_read_law (bytes_at c) c.plan_section-section.ensures c.if-section-ne0.false).end) ∙ (head_at c).zero
+head_zero c = ap (head_section_number (c.args.bytes.now)) (sym (plan_read_law (c.args.bytes.now) c.plan_section-section.ensures c.if-section-ne0.false).end) ∙ (head_at c).zero
 
 pub returns-then-section-ne0 : goal.returns-then-section-ne0
 returns-then-section-ne0 c =
@@ -59,7 +55,7 @@ cells-requires c = ((plan_at (goal.at.cells-requires c).After-struct_known-2-1).
 pub returns-then-cells-gt4096 : goal.returns-then-cells-gt4096
 returns-then-cells-gt4096 c =
     let bytes = (c.args.bytes.now) in
-    let n = opening_cells bytes (plan_at (goal.at.returns-then-cells-gt4096 c).After-struct_known-2-1).zero (head_zero (goal.at.returns-then-cells-gt4096 c).Else-head-ne0) (job_at (goal.at.returns-then-cells-gt4096 c).Else-head-ne0) (rw c.cells.ensures c c.if-cells-gt4096.true) in
+    let n = opening_cells bytes (plan_at (goal.at.returns-then-cells-gt4096 c).After-struct_known-2-1).zero (head_zero (goal.at.returns-then-cells-gt4096 c).Else-head-ne0) (job_at (goal.at.returns-then-cells-gt4096 c).Else-head-ne0) (rw c.cells.ensures at c.if-cells-gt4096.true) in
     opened_refused bytes c.refused-then-cells-gt4096.ensures n (λ z. omega arith)
 
 pub overflow_add-result : goal.overflow_add-result
@@ -68,4 +64,4 @@ overflow_add-result c = let p = plan_at (goal.at.overflow_add-result c).After-st
 pub returns : goal.returns
 returns c =
     let bytes = (c.args.bytes.now) in
-    opened_all bytes (opening_all bytes (plan_at (goal.at.returns c).After-struct_known-2-1).zero (head_zero (goal.at.returns c).Else-head-ne0) (job_at (goal.at.returns c).Else-head-ne0) (rw c.cells.ensures c c.if-cells-gt4096.false)) (job_at (goal.at.returns c).Else-head-ne0)
+    opened_all bytes (opening_all bytes (plan_at (goal.at.returns c).After-struct_known-2-1).zero (head_zero (goal.at.returns c).Else-head-ne0) (job_at (goal.at.returns c).Else-head-ne0) (rw c.cells.ensures at c.if-cells-gt4096.false)) (job_at (goal.at.returns c).Else-head-ne0)

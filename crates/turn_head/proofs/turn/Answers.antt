@@ -20,18 +20,18 @@ stands_at c =
 pub returns-then-is_short : goal.returns-then-is_short
 returns-then-is_short c =
     let (a, b) = c.is_short.ensures.0 c.if-is_short.true in
-    waits c.args.machine c.args.bytes.now c.args.starts.now c.args.lengths.now c.args.frame.now c.pre.0 c.head_wants-wanted.result c.at_head.result c.at_head.ensures (omega (arith, a, b)) c.head_wants-wanted.ensures.1
+    waits c.args.machine c.args.bytes.now c.args.starts.now c.args.lengths.now c.args.frame.now c.requires.0 c.head_wants-wanted.result c.at_head.result c.at_head.ensures (omega (arith, a, b)) c.head_wants-wanted.ensures.1
 
 pub returns-then-opened-ne0 : goal.returns-then-opened-ne0
 returns-then-opened-ne0 c =
-    refuses c.args.machine c.args.bytes.now c.args.starts.now c.args.lengths.now _ c.pre.0 (stands_at (goal.at.returns-then-opened-ne0 c).Else-is_short) c.args.machine.state c.ended.result (ap (λ r. r.number) c.«open».ensures) c.if-opened-ne0.true c.ended.ensures
+    refuses c.args.machine c.args.bytes.now c.args.starts.now c.args.lengths.now _ c.requires.0 (stands_at (goal.at.returns-then-opened-ne0 c).Else-is_short) c.args.machine.state c.ended.result (ap (λ r. r.number) c.open-opened.ensures) c.if-opened-ne0.true c.ended.ensures
 
 pub begin-requires : goal.begin-requires
 begin-requires c =
     let bytes = c.args.bytes.now in
-    let e = c.«open».ensures in
-    (sym (ap (λ r. r.number) e) ∙ c.if-opened-ne0.false, opened_job (opening_number bytes) (job_from bytes) e c.if-opened-ne0.false, omega arith, c.pre.2, c.pre.3)
+    let e = c.open-opened.ensures in
+    (sym (ap (λ r. r.number) e) ∙ c.if-opened-ne0.false, opened_job (opening_number bytes) (job_from bytes) e c.if-opened-ne0.false, omega arith, c.requires.2, c.requires.3)
 
 pub returns : goal.returns
 returns c =
-    c.begin.ensures c.args.machine c.pre.0
+    c.begin.ensures c.args.machine c.requires.0
