@@ -1,0 +1,19 @@
+-- `show` meets its contract: the place is there exactly where it is below the record's length.
+use mathlib.Core.Path.{sym, ◌∙◌}
+use native.Mathlib.Omega.{arith}
+use Rattle.sample.specs.Samples.{rates}
+use Rattle.picture_state.proofs.ReadingOut.{show_lacks, show_finds}
+use Rattle.picture_rate.proofs.show.Goals as goal
+
+pub returns-then-wide-k : goal.returns-then-wide-k
+returns-then-wide-k c =
+    show_lacks rates c.args.places c.args.x c.args.values.now c.args.positions.now c.args.starts.now c.args.lengths.now c.args.k c.args.s _ _ c.wide.ensures.0 c.if-wide-k.true c.lacks.ensures
+
+pub entry-requires : goal.entry-requires
+entry-requires c =
+    let (l, v, x, d) = c.requires in
+    (l.places, x, v ∙ l.positions_long, sym v, l.sound.below _ x, omega (arith, l.sound.fits c.args.x x, c.wide.ensures.0, c.if-wide-k.false), d)
+
+pub returns : goal.returns
+returns c =
+    show_finds rates c.args.places c.args.x c.args.values.now c.args.positions.now c.args.starts.now c.args.lengths.now c.args.k c.args.s _ _ c.wide.ensures.0 _ _ c.if-wide-k.false c.entry.ensures c.finds.ensures
