@@ -1,25 +1,21 @@
 -- `row` meets its contract: judged, and then a step over a copy of the row.
 use mathlib.Core.Path.{◌≡◌, sym, ap, ◌∙◌}
-use Prim.Native.Nat.{ℕ, ◌≤◌}
+use Prim.Native.Nat.{◌≤◌}
 use native.Mathlib.Omega.{arith}
 use lib.ListN.{length, length-append}
 use lib.Seq.{length-take-le, take_at}
 use Rattle.sample.specs.Samples.{greys}
-use Rattle.memory.specs.Memory.{Memory, memory}
+use Rattle.memory.specs.Memory.{memory}
 use Rattle.sample.proofs.Rows.{all_grey, taken_grey}
 use Rattle.picture_state.proofs.Step.{Taken, offer_taken, refuses_row, accepts_row, advanced_as}
 use Rattle.picture_grey.proofs.row.Goals as goal
-use Rattle.picture_grey.proofs.row.Goals.{After-blank-room, After-copy, Else-number-ne0, Start}
-
--- the memory lent
-abbrev lent : Start → Memory ℕ
-lent s = memory s.args.values.now s.args.positions.now s.args.starts.now s.args.lengths.now
+use Rattle.picture_grey.proofs.row.Goals.{After-blank-room, After-copy, Else-number-ne0}
 
 judged : (c : Else-number-ne0) → (Taken c.args.state (memory c.args.values.now c.args.positions.now c.args.starts.now c.args.lengths.now) c.args.out.now × (length c.args.row.now ≡ c.args.state.width))
 judged c = offer_taken 0 c.args.state (memory c.args.values.now c.args.positions.now c.args.starts.now c.args.lengths.now) c.args.row.now c.args.out.now (sym c.judge_row-number.ensures ∙ c.if-number-ne0.false)
 
 room_wide : (c : After-blank-room) → length c.args.row.now ≤ length c.blank-room.result
-room_wide c = let (a, w) = (offer_taken 0 c.args.state (lent c) c.args.row.now c.args.out.now (sym c.judge_row-number.ensures ∙ c.if-number-ne0.false)) in omega (arith, a.fit.run.narrow, w, c.blank-room.ensures)
+room_wide c = let (a, w) = (offer_taken 0 c.args.state (memory c.args.values.now c.args.positions.now c.args.starts.now c.args.lengths.now) c.args.row.now c.args.out.now (sym c.judge_row-number.ensures ∙ c.if-number-ne0.false)) in omega (arith, a.fit.run.narrow, w, c.blank-room.ensures)
 
 copied_long : (c : After-copy) → length c.copy.new.to ≡ length c.args.row.now
 copied_long c = ap length c.copy.ensures
