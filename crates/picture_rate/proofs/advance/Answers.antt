@@ -24,7 +24,7 @@ enough : (c : After-records-records) → AtLeast c.cells-cells.result c.records-
 enough c =
     fit_lent rates c.args.state (memory c.args.values.now c.args.positions.now c.args.starts.now c.args.lengths.now) _ _ _ c.whole-plan.ensures c.cells-cells.ensures c.records-records.ensures c.requires.0
 
-went : (c : After-run-ran) → (Went rates c.args.state (memory c.args.values.now c.args.positions.now c.args.starts.now c.args.lengths.now) c.args.work.now c.whole-plan.result c.cells-cells.result c.records-records.result (let l = c.run-ran.new.values in memory l.0 l.1.0 l.1.1.0 l.1.1.1.0) c.run-ran.new.row c.run-ran.result.comparisons c.run-ran.result.due)
+went : (c : After-run-ran) → (Went rates c.args.state (memory c.args.values.now c.args.positions.now c.args.starts.now c.args.lengths.now) c.args.work.now c.whole-plan.result c.cells-cells.result c.records-records.result (memory c.run-ran.new.values c.run-ran.new.positions c.run-ran.new.starts c.run-ran.new.lengths) c.run-ran.new.row c.run-ran.result.comparisons c.run-ran.result.due)
 went c =
     record { same = c.whole-plan.ensures; cells_are = c.cells-cells.ensures; records_are = c.records-records.ensures; fit = c.requires.0; wide = c.requires.1; step = rw c.height-rows.ensures at c.run-ran.ensures }
 

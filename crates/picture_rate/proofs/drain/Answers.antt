@@ -2,24 +2,19 @@
 use mathlib.Core.Path.{sym, ◌∙◌}
 use Prim.Native.Nat.{◌≤◌}
 use native.Mathlib.Omega.{arith}
-use lib.Ieee.{Float}
 use lib.ListN.{length}
 use lib.Seq.{length-take-le}
 use Rattle.sample.specs.Samples.{rates}
-use Rattle.memory.specs.Memory.{Memory, memory}
+use Rattle.memory.specs.Memory.{memory}
 use Rattle.picture_state.proofs.Step.{Taken, drain_taken, refuses_drain, accepts_drain}
 use Rattle.picture_rate.proofs.drain.Goals as goal
-use Rattle.picture_rate.proofs.drain.Goals.{After-blank-room, Else-number-ne0, Start}
-
--- the memory lent
-abbrev lent : Start → Memory Float
-lent s = memory s.args.values.now s.args.positions.now s.args.starts.now s.args.lengths.now
+use Rattle.picture_rate.proofs.drain.Goals.{After-blank-room, Else-number-ne0}
 
 judged : (c : Else-number-ne0) → (Taken c.args.state (memory c.args.values.now c.args.positions.now c.args.starts.now c.args.lengths.now) c.args.out.now)
 judged c = drain_taken 1 c.args.state (memory c.args.values.now c.args.positions.now c.args.starts.now c.args.lengths.now) c.args.out.now (sym c.judge_drain-number.ensures ∙ c.if-number-ne0.false)
 
 room_wide : (c : After-blank-room) → length c.args.out.now ≤ length c.blank-room.result
-room_wide c = let a = (drain_taken 1 c.args.state (lent c) c.args.out.now (sym c.judge_drain-number.ensures ∙ c.if-number-ne0.false)) in omega (arith, a.fit.run.narrow, a.out_wide, c.blank-room.ensures)
+room_wide c = let a = (drain_taken 1 c.args.state (memory c.args.values.now c.args.positions.now c.args.starts.now c.args.lengths.now) c.args.out.now (sym c.judge_drain-number.ensures ∙ c.if-number-ne0.false)) in omega (arith, a.fit.run.narrow, a.out_wide, c.blank-room.ensures)
 
 pub returns-then-number-ne0 : goal.returns-then-number-ne0
 returns-then-number-ne0 c = refuses_drain rates _ _ _ _ _ _ _ c.judge_drain-number.ensures c.if-number-ne0.true c.refuses.ensures.0 c.refuses.ensures.1

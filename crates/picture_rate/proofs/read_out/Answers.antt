@@ -1,21 +1,16 @@
 -- `read_out` meets its contract: judged, and then the place is looked for in the stage's part.
 use mathlib.Core.Path.{◌≡◌, sym, ◌∙◌}
 use Prim.Native.Nat.{◌*◌, ◌≤◌, ◌<◌}
-use lib.Ieee.{Float}
 use native.Mathlib.Omega.{arith}
 use lib.ListN.{length}
 use Rattle.sample.specs.Samples.{rates}
-use Rattle.memory.specs.Memory.{Memory, memory}
+use Rattle.memory.specs.Memory.{memory}
 use Rattle.plan_record.proofs.Laws.{mul_most}
 use Rattle.picture_state.specs.Inner.{Accepted, placed_number}
 use Rattle.picture_state.specs.Numbers.{height_of}
 use Rattle.picture_state.proofs.ReadingOut.{Place, Within, placed_part, placed_place, place_within, place_asks, shows_place, shows_refused}
 use Rattle.picture_rate.proofs.read_out.Goals as goal
-use Rattle.picture_rate.proofs.read_out.Goals.{After-part_of-part, After-whole-plan, Start}
-
--- the memory lent
-abbrev lent : Start → Memory Float
-lent s = memory s.args.values.now s.args.positions.now s.args.starts.now s.args.lengths.now
+use Rattle.picture_rate.proofs.read_out.Goals.{After-part_of-part, After-whole-plan}
 
 -- the state, the memory, the stage and the column are judged, and nothing is wrong
 judged : (c : After-whole-plan) → (placed_number 1 c.args.state c.args.stage c.args.column (length c.args.values.now) (length c.args.positions.now) c.args.starts.now c.args.lengths.now ≡ 0)
@@ -35,7 +30,7 @@ within c = place_within c.args.state (memory c.args.values.now c.args.positions.
 
 -- and the records before it are few
 records_few : (c : After-part_of-part) → (c.args.stage * c.args.state.width ≤ 16 * 4096)
-records_few c = let a = (placed_part 1 c.args.state (lent c) c.args.stage c.args.column _ c.whole-plan.ensures.0 (sym c.judge_place-number.ensures ∙ c.if-number-ne0.false)) in mul_most c.args.stage c.args.state.width 16 4096 (omega (arith, a.1, a.0.few)) a.2
+records_few c = let a = (placed_part 1 c.args.state (memory c.args.values.now c.args.positions.now c.args.starts.now c.args.lengths.now) c.args.stage c.args.column _ c.whole-plan.ensures.0 (sym c.judge_place-number.ensures ∙ c.if-number-ne0.false)) in mul_most c.args.stage c.args.state.width 16 4096 (omega (arith, a.1, a.0.few)) a.2
 
 pub returns-then-number-ne0 : goal.returns-then-number-ne0
 returns-then-number-ne0 c =

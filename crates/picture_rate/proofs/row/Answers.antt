@@ -2,26 +2,21 @@
 use mathlib.Core.Path.{◌≡◌, sym, ap, ◌∙◌}
 use Prim.Native.Nat.{◌≤◌}
 use native.Mathlib.Omega.{arith}
-use lib.Ieee.{Float}
 use lib.ListN.{length, length-append, length-map}
 use lib.Seq.{length-take-le, take_at}
 use Rattle.sample.specs.Samples.{rates}
-use Rattle.memory.specs.Memory.{Memory, memory}
+use Rattle.memory.specs.Memory.{memory}
 use Rattle.picture_state.specs.Step.{refused}
 use Rattle.picture_state.proofs.Step.{Taken, offer_taken, refuses_row, bad_row, accepts_row, advanced_as}
 use Rattle.sample.proofs.Rows.{is_all, not_all}
 use Rattle.picture_rate.proofs.row.Goals as goal
-use Rattle.picture_rate.proofs.row.Goals.{After-blank-room, After-take_in, Else-number-ne0, Start}
-
--- the memory lent
-abbrev lent : Start → Memory Float
-lent s = memory s.args.values.now s.args.positions.now s.args.starts.now s.args.lengths.now
+use Rattle.picture_rate.proofs.row.Goals.{After-blank-room, After-take_in, Else-number-ne0}
 
 judged : (c : Else-number-ne0) → (Taken c.args.state (memory c.args.values.now c.args.positions.now c.args.starts.now c.args.lengths.now) c.args.out.now × (length c.args.row.now ≡ c.args.state.width))
 judged c = offer_taken 1 c.args.state (memory c.args.values.now c.args.positions.now c.args.starts.now c.args.lengths.now) c.args.row.now c.args.out.now (sym c.judge_row-number.ensures ∙ c.if-number-ne0.false)
 
 room_wide : (c : After-blank-room) → length c.args.row.now ≤ length c.blank-room.result
-room_wide c = let (a, w) = (offer_taken 1 c.args.state (lent c) c.args.row.now c.args.out.now (sym c.judge_row-number.ensures ∙ c.if-number-ne0.false)) in omega (arith, a.fit.run.narrow, w, c.blank-room.ensures)
+room_wide c = let (a, w) = (offer_taken 1 c.args.state (memory c.args.values.now c.args.positions.now c.args.starts.now c.args.lengths.now) c.args.row.now c.args.out.now (sym c.judge_row-number.ensures ∙ c.if-number-ne0.false)) in omega (arith, a.fit.run.narrow, w, c.blank-room.ensures)
 
 read_long : (c : After-take_in) → length c.take_in.new.work ≡ length c.args.row.now
 read_long c = ap length c.take_in.ensures ∙ length-map c.args.row.now _
