@@ -1,6 +1,6 @@
 /* The methods in C that the proved code is measured against, for both sample kinds: (a) the same queue method, a step and
  * a whole picture; (b) van Herk's; (w) the same passes over a whole picture, in place. methods.c holds them and is compiled
- * by the compiler of the proved code. */
+ * by the kit's clang. */
 #include <stddef.h>
 #include <stdint.h>
 

@@ -3,7 +3,7 @@
 #
 # The first line of MAIN.txt names the repository's crates that it uses. They and those below them are proved and built where
 # they are not yet. The kit builds nothing that is not proved: of the functions of MAIN.txt, which promise
-# nothing, it proves that they are safe where what they require holds. It compiles at -O3 for every x86-64 processor.
+# nothing, it proves that they are safe where what they require holds. The compiler is the archive's, for every x86-64 processor.
 set -eu
 main=$1 out=$2
 kit=${RATTLE_HOME:-$(dirname "$(rt doc)")}
@@ -34,6 +34,6 @@ mkdir "$work/src"
 cp "$main" "$work/src/lib.rt"
 (cd "$work" && "$kit/bin/rattle" build --crate-name "bench_$name" src/lib.rt $libraries \
     --antt-project "$kit/rattle/logic/antt-project.json" --logic-built "$kit/logic_built" --jobs 2 --links "bench_$name=" \
-    --crate-type staticlib --cpu=x86-64 --toolchain "$kit/toolchain" --backend llvm -o made.a) >"$work/log" 2>&1 ||
+    --crate-type staticlib --cpu=x86-64 --toolchain "$kit/toolchain" --backend rattle -o made.a) >"$work/log" 2>&1 ||
     { cat "$work/log"; exit 1; }
 cp "$work/made.a" "$out"

@@ -1,5 +1,5 @@
 /* A row's dark residue in C: what the proved call judges, and its two loops, the sum in 32 bits. It
- * is compiled by the compiler of the proved code. A refusal's number comes above every sum. */
+ * is compiled by the kit's clang. A refusal's number comes above every sum. */
 #include "dark.h"
 
 static size_t refused(size_t number) { return REFUSED + number; }

@@ -4,7 +4,8 @@ made=target/firmware
 mkdir -p $made/include
 
 archive() { # proves and builds the archive: target/staticlib/libfirmware.a, for every x86-64 processor
-    (cd crates/firmware_c && "$kit/bin/rt" lib --cpu=x86-64) </dev/null >$made/log 2>&1 || { cat $made/log; exit 1; }
+    # Rattle's own compiler takes the floats of a row in vectors, as its build by LLVM does not.
+    (cd crates/firmware_c && "$kit/bin/rt" lib --backend rattle --cpu=x86-64) </dev/null >$made/log 2>&1 || { cat $made/log; exit 1; }
     mkdir -p target/staticlib
     cp crates/firmware_c/out/libfirmware_c.a target/staticlib/libfirmware.a
 }
