@@ -12,7 +12,7 @@ slice_bounds-take_in-end c = sym (length-take-le _ _ (c.requires.2 c.if-state.tr
 
 pub take_in-requires : goal.take_in-requires
 take_in-requires c =
-    sym (slice-aggregate-take-in c) ∙ ap (λ (n : ℕ). n * 4) (sym c.requires.1)
+    length-take-le _ _ (c.requires.2 c.if-state.true) ∙ ap (λ (n : ℕ). n * 4) (sym c.requires.1)
 
 pub returns-then-state : goal.returns-then-state
 returns-then-state c =

@@ -4,7 +4,7 @@ use native.Mathlib.Omega.{arith}
 use Prim.Native.Nat.{ℕ, ◌+◌, ◌*◌}
 use lib.ListN.{drop}
 use lib.Seq.{length-take-le}
-use Rattle.step_rate.proofs.Laws.{framed}
+use Rattle.step_rate.proofs.Laws.{front_back, framed}
 use Rattle.step_rate.proofs.take.Goals as goal
 
 pub slice_bounds-step-end-2 : goal.slice_bounds-step-end-2
@@ -17,14 +17,17 @@ slice_bounds-step-end-4 c =
 
 pub step-stepped-requires : goal.step-stepped-requires
 step-stepped-requires c =
-    (c.requires.0, sym (slice-aggregate-step c), c.requires.4)
+    (c.requires.0, length-take-le _ _ (omega (arith, c.requires.0, c.requires.2)), c.requires.4)
 
 pub slice_bounds-give-end-4 : goal.slice_bounds-give-end-4
 slice_bounds-give-end-4 c =
     sym (length-take-le _ _ (omega (arith, c.requires.0, c.requires.1)))
 
 pub give-requires : goal.give-requires
-give-requires c = sym (slice-aggregate-give-2 c) ∙ ap (λ (n : ℕ). 1 + n * 4) (slice-aggregate-give c)
+give-requires c =
+    length-take-le _ _ (omega (arith, c.requires.0, c.requires.1))
+    ∙ ap (λ (n : ℕ). 1 + n * 4)
+    (sym (front_back c.args.state.width c.args.came.now c.step-stepped.new.came (omega (arith, c.requires.0, c.requires.3)) c.step-stepped.auto.came))
 
 pub returns : goal.returns
 returns c =
