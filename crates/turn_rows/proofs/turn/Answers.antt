@@ -3,7 +3,7 @@ use native.Mathlib.Omega.{arith}
 use lib.ListN.{length}
 use Rattle.picture_state.proofs.Numbers.{ahead_few}
 use Rattle.turns.specs.Inner.{machine_memory}
-use Rattle.turns.proofs.Turn.{AtRows, stands_rows, row_there, both_size, short_turns, tail_turns}
+use Rattle.turns.proofs.Turn.{AtRows, stands_rows, row_there, both_size, short_turns, step_turns, tail_turns}
 use Rattle.turn_rows.proofs.turn.Goals as goal
 use Rattle.turn_rows.proofs.turn.Goals.{Start}
 
@@ -38,3 +38,9 @@ pub after-requires : goal.after-requires
 after-requires c =
     let (p, w) = both_size _ _ _ _ _ _ _ c.step-stepped.ensures (at_rows (goal.at.after-requires c).Start).sound in
     (omega (arith, c.step-stepped.auto.frame), p, w)
+
+pub returns : goal.returns
+returns c =
+    let k = c.step-stepped in
+    step_turns c.args.machine c.args.bytes.now (machine_memory c.args.greys.now c.args.rates.now c.args.positions.now c.args.starts.now c.args.lengths.now) _ _ _ _ _ _ c.requires.0 c.requires.1 (omega (arith, k.auto.frame)) c.after.auto.frame c.if-bytes-wants.false
+    (omega (arith, c.look_ahead.ensures, c.if-state-look_ahead.false)) k.ensures c.after.ensures
