@@ -2,8 +2,9 @@
 // A reader or a writer that is not ready is waited for, as one that blocks would have its caller wait.
 #![tactic(auto)]
 
-ghost use Rattle.std.specs.Prelude.{◌≤◌, length, IfOk};
-ghost use Rattle.descriptors.specs.Filled.{Fills};
+ghost use Rattle.std.specs.Prelude.{◌≤◌, length, take, IfOk};
+ghost use Rattle.std.specs.Io.KnownBytes.{Appends, ReadConsumes, WriteAppends};
+ghost use Rattle.descriptors.specs.Filled.{Fills, Brings, BringsSome};
 
 use std::fmt::InlineText;
 use std::io;
@@ -51,7 +52,8 @@ fn say_unwritten(rt: &impl Eprint, error: io::Error) {
 
 // One read that does not fail for want of bytes: how many came, none at the input's end.
 fn read_patiently<H: Clock, R: Read>(rt: &H, from: &mut R, part: &mut [u8]) -> io::Result<usize>
-    ensures { IfOk result (λ got. got ≤ length part.new) }
+    ensures few { IfOk result (λ got. got ≤ length part.new) }
+    ensures bytes { ReadConsumes (R.remaining from.old) (R.remaining from.new) result part.new }
 {
     for _ in 1..PATIENCE {
         match from.read(part) {
@@ -68,7 +70,8 @@ fn read_patiently<H: Clock, R: Read>(rt: &H, from: &mut R, part: &mut [u8]) -> i
 
 // Such a read, which says so where it fails.
 fn read_some<H: Clock + Eprint, R: Read>(rt: &H, from: &mut R, part: &mut [u8]) -> Filled
-    ensures { Fills (length part.new) result }
+    ensures few { Fills (length part.new) result }
+    ensures bytes { BringsSome (R.remaining from.old) (R.remaining from.new) part.new result }
 {
     match read_patiently(rt, from, part) {
         Ok(got) => Filled::With(got),
@@ -81,7 +84,8 @@ fn read_some<H: Clock + Eprint, R: Read>(rt: &H, from: &mut R, part: &mut [u8]) 
 
 // Reads until the part is full or the input ends; says so where a read fails.
 pub fn fill<H: Clock + Eprint, R: Read>(rt: &H, from: &mut R, part: &mut [u8]) -> Filled
-    ensures { Fills (length part.new) result }
+    ensures few { Fills (length part.new) result }
+    ensures bytes { Brings (R.remaining from.old) (R.remaining from.new) part.new result }
 {
     let mut got = 0;
     while got < part.len() {
@@ -99,7 +103,8 @@ pub fn fill<H: Clock + Eprint, R: Read>(rt: &H, from: &mut R, part: &mut [u8]) -
 
 // One write that does not fail for want of room: how many bytes were taken.
 fn write_patiently<H: Clock, W: Write>(rt: &H, to: &mut W, bytes: &[u8]) -> io::Result<usize>
-    ensures { IfOk result (λ taken. taken ≤ length bytes.now) }
+    ensures few { IfOk result (λ taken. taken ≤ length bytes.now) }
+    ensures bytes { WriteAppends (W.contents to.old) (W.contents to.new) result bytes.now }
 {
     for _ in 1..PATIENCE {
         match to.write(bytes) {
@@ -116,7 +121,8 @@ fn write_patiently<H: Clock, W: Write>(rt: &H, to: &mut W, bytes: &[u8]) -> io::
 
 // Such a write, which says so where it fails or takes nothing: then none were taken.
 fn write_some<H: Clock + Eprint, W: Write>(rt: &H, to: &mut W, bytes: &[u8]) -> usize
-    ensures { result ≤ length bytes.now }
+    ensures few { result ≤ length bytes.now }
+    ensures bytes { Appends (W.contents to.old) (W.contents to.new) (take result bytes.now) }
 {
     match write_patiently(rt, to, bytes) {
         Ok(0) => {
@@ -133,7 +139,8 @@ fn write_some<H: Clock + Eprint, W: Write>(rt: &H, to: &mut W, bytes: &[u8]) -> 
 
 // Writes all bytes, and answers how many were taken: fewer than all only where a write failed, and then it says so.
 pub fn write_whole<H: Clock + Eprint, W: Write>(rt: &H, to: &mut W, bytes: &[u8]) -> usize
-    ensures { result ≤ length bytes.now }
+    ensures few { result ≤ length bytes.now }
+    ensures bytes { Appends (W.contents to.old) (W.contents to.new) (take result bytes.now) }
 {
     let mut done = 0;
     while done < bytes.len() {

@@ -1,9 +1,10 @@
--- No more bytes were taken than there are, and each turn has one taken at least.
-use Rattle.std.proofs.Common.{length, ◌-◌, ◌≤◌}
+-- The bytes that were taken so far went to the writer, in order, and each turn has one taken at least.
+use Rattle.std.proofs.Common.{length, take, ◌-◌, ◌≤◌}
+use Rattle.std.specs.Io.KnownBytes.{Appends}
 use Rattle.descriptors.proofs.write_whole.Given as goal
 
 abbrev pub invariant-loop-done : goal.invariant-loop-done
-invariant-loop-done g l = l.done ≤ length l.bytes
+invariant-loop-done g l = (l.done ≤ length l.bytes) × Appends (g.W.Write.contents l.initial.to) (g.W.Write.contents l.to) (take l.done l.bytes)
 
 abbrev pub decreases-loop-done : goal.decreases-loop-done
 decreases-loop-done g l = length l.bytes - l.done
