@@ -1,8 +1,6 @@
 -- `Going` is carried round.
-use Rattle.std.proofs.Common.{◌≡◌, ◌∙◌, false, length, arith}
-use Rattle.turns.specs.Inner.{is_over}
-use Rattle.program.specs.Inner.{Fetched}
-use Rattle.program.proofs.Runs.{wants_few, runs_stands, given_all, fetched_had, going_first, going_lost, going_latest, runs_fetch, fetched_latest, used_few, turned_due, turned_lost, going_next}
+use Rattle.std.proofs.Common.{◌≡◌, length, arith}
+use Rattle.program.proofs.Runs.{wants_few, runs_stands, given_all, fetched_had, going_first, going_lost, going_latest, fetched_latest, turned_due, turned_lost, going_next}
 use Rattle.program.proofs.go.Goals as goal
 
 pub loop-machine-init : goal.loop-machine-init

@@ -1,6 +1,6 @@
 -- Bytes are moved to the front one by one.
 use Rattle.std.proofs.Common.{refl, arith}
-use Rattle.program.proofs.Buffer.{Moving, moving_first, moving_next, moving_last}
+use Rattle.program.proofs.Buffer.{moving_next, moving_last}
 use Rattle.program.proofs.keep.Goals as goal
 
 pub loop-i-preserved : goal.loop-i-preserved
