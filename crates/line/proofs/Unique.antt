@@ -158,17 +158,17 @@ rate_of s = record {
   queue = record { values = s.values; positions = s.positions; start = s.start; count = s.count };
 }
 
-pub grey_line_law : (l m : Line) → grey.greyLine l ≡ grey.greyLine m → l ≡ m
+pub grey_line_law : (l m : Line) → grey.grey_line l ≡ grey.grey_line m → l ≡ m
 unfolding line_of
 grey_line_law l m e = ap line_of e
 
-pub rate_line_law : (l m : RateLine) → rate.rateLine l ≡ rate.rateLine m → l ≡ m
+pub rate_line_law : (l m : RateLine) → rate.rate_line l ≡ rate.rate_line m → l ≡ m
 unfolding rate_of
 rate_line_law l m e = ap rate_of e
 
 -- one constructor says nothing that another says, and what it holds is told
 
-pub grey_answer : (a b : Answer) → grey.greyPixel a ≡ grey.greyPixel b → a ≡ b
+pub grey_answer : (a b : Answer) → grey.grey_pixel a ≡ grey.grey_pixel b → a ≡ b
 grey_answer (Pixel v p n c) (Pixel w q m d) e =
     let h : ◌≡◌ {A = Entry ℕ} (record { value = v; position = p }) (record { value = w; position = q }) = cc in
     cc (ap (λ (x : Entry ℕ). x.value) h, ap (λ (x : Entry ℕ). x.position) h)
@@ -181,7 +181,7 @@ grey_answer (Refused n c) (Pixel w q m d) e = cc
 grey_answer (Refused n c) (NotYet d) e = cc
 grey_answer (Refused n c) (Refused m d) e = cc
 
-pub rate_answer : (a b : RateAnswer) → rate.ratePixel a ≡ rate.ratePixel b → a ≡ b
+pub rate_answer : (a b : RateAnswer) → rate.rate_pixel a ≡ rate.rate_pixel b → a ≡ b
 rate_answer (RatePixel v p n c) (RatePixel w q m d) e =
     let h : ◌≡◌ {A = Entry Float} (record { value = v; position = p }) (record { value = w; position = q }) = cc in
     cc (ap (λ (x : Entry Float). x.value) h, ap (λ (x : Entry Float). x.position) h)
@@ -194,7 +194,7 @@ rate_answer (RateRefused n c) (RatePixel w q m d) e = cc
 rate_answer (RateRefused n c) (RateNotYet d) e = cc
 rate_answer (RateRefused n c) (RateRefused m d) e = cc
 
-pub grey_read_out : (r r' : ReadOut) → grey.greyLineShown r ≡ grey.greyLineShown r' → r ≡ r'
+pub grey_read_out : (r r' : ReadOut) → grey.grey_line_shown r ≡ grey.grey_line_shown r' → r ≡ r'
 grey_read_out (Found e) (Found f) h =
     let q : ◌≡◌ {A = Entry ℕ} (record { value = e.value; position = e.position }) (record { value = f.value; position = f.position }) = cc in
     ap (λ (x : Entry ℕ). Found (record { value = x.value; position = x.position })) q
@@ -202,7 +202,7 @@ grey_read_out (Found e) (NotFound n) h = cc
 grey_read_out (NotFound n) (Found e) h = cc
 grey_read_out (NotFound n) (NotFound m) h = cc
 
-pub rate_read_out : (r r' : RateReadOut) → rate.rateLineShown r ≡ rate.rateLineShown r' → r ≡ r'
+pub rate_read_out : (r r' : RateReadOut) → rate.rate_line_shown r ≡ rate.rate_line_shown r' → r ≡ r'
 rate_read_out (RateFound e) (RateFound f) h =
     let q : ◌≡◌ {A = Entry Float} (record { value = e.value; position = e.position }) (record { value = f.value; position = f.position }) = cc in
     ap (λ (x : Entry Float). RateFound (record { value = x.value; position = x.position })) q
