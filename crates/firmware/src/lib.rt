@@ -31,13 +31,7 @@ fn judge(kind: u8, left: u8, right: u8, pixels: usize, places: usize) -> u8
 }
 
 // Filters the row `input` into the row `output`, and answers 0; or answers the number of a refusal, and writes nothing.
-pub fn kelafshir_filter_row(
-    kind: u8,
-    left: u8,
-    right: u8,
-    input: &[u8],
-    output: &mut [u8],
-) -> u8
+pub fn kelafshir_filter_row(kind: u8, left: u8, right: u8, input: &[u8], output: &mut [u8]) -> u8
     ensures { FiltersRow kind left right input.now output.old output.new result }
 {
     let number = judge(kind, left, right, input.len(), output.len());
