@@ -22,8 +22,7 @@ send-gone-requires g c =
     let l = c.loop-machine in
     let f = c.fetch-fetched in
     let t = c.turn-turned in
-    let had = fetched_had l.bytes f.new.bytes l.hand l.machine.wants f.new.total f.result.have c.in-Through.is f.ensures in
-    (
+    let had = fetched_had l.bytes f.new.bytes l.hand l.machine.wants f.new.total f.result.have c.in-Through.is f.ensures in (
       omega (arith, t.ensures.put_there, t.auto.frame, l.invariant.1),
       fetched_latest l.invariant.0 had (omega (arith, f.auto.bytes, l.auto.bytes, c.requires.1)),
       turned_due l.invariant.0 had (c.is_on.ensures.0 c.loop-machine-test.true) t.ensures had.short,

@@ -43,12 +43,11 @@ sound-good-requires c =
     (omega (arith, s.up, s.down, c.size_of.ensures.0), cut_long _ _ _ _ a b)
 
 pub loop-i-preserved : goal.loop-i-preserved
-loop-i-preserved c =
-    (
-      omega arith,
-      omega arith,
-      sound_next _ _ _ _ (few (goal.at.loop-i-preserved c).Start) (stages_long (goal.at.loop-i-preserved c).Start) _ _ _ _ _ (omega arith) c.loop-i.invariant.1 c.loop-i.invariant.2 c.size_of.ensures.0 c.sound-good.ensures,
-    )
+loop-i-preserved c = (
+  omega arith,
+  omega arith,
+  sound_next _ _ _ _ (few (goal.at.loop-i-preserved c).Start) (stages_long (goal.at.loop-i-preserved c).Start) _ _ _ _ _ (omega arith) c.loop-i.invariant.1 c.loop-i.invariant.2 c.size_of.ensures.0 c.sound-good.ensures,
+)
 
 pub returns : goal.returns
 returns c = let e : c.loop-i.i ≡ c.args.plan.count = omega arith in rw e at c.loop-i.invariant.2
