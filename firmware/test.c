@@ -1,4 +1,4 @@
-/* Tests the one-row filters of the archive that `rt staticlib firmware` writes, through kelafshir.h, against a plain loop.
+/* Tests the one-row filters of the archive that `sh firmware/archive.sh` makes, through kelafshir.h, against a plain loop.
  *
  * Each row lies against a page that nobody may touch, once with its first byte and once with its last, so a byte read
  * or written outside a row stops the run. The bytes beside an output row on its open side are compared afterwards.

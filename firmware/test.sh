@@ -1,7 +1,6 @@
 #!/bin/sh
 # Proves and builds the archive, builds the tests of the one-row filters, of the dark residue and of the question about it
-# and the five examples over it with the kit's own compiler, and runs them. On a machine that is not x86-64 they run under
-# the kit's emulator. The last line is 'N passed, M failed'.
+# and the five examples over it with the kit's own compiler, and runs them, on x86-64. The last line is 'N passed, M failed'.
 set -eu
 cd "$(dirname "$0")/.."
 . firmware/kit.sh

@@ -1,4 +1,4 @@
-/* Tests the dark residue of the archive that `rt staticlib firmware` writes, through kelafshir.h, against a plain loop.
+/* Tests the dark residue of the archive that `sh firmware/archive.sh` makes, through kelafshir.h, against a plain loop.
  *
  * Every call is made eight times: the closed row, the input row and the place of the sum each lie once with the first byte
  * and once with the last against a page that nobody may touch, so a byte read or written outside on that side stops the run.

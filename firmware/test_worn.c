@@ -1,4 +1,4 @@
-/* Tests the question of the archive that `rt staticlib firmware` writes, through kelafshir.h, against a plain reading. Of
+/* Tests the question of the archive that `sh firmware/archive.sh` makes, through kelafshir.h, against a plain reading. Of
  * whole pictures the rows are added up from the first one again for every answer.
  *
  * Every pair is asked four times: the closed row and the input row each lie once with the first byte and once with the last
