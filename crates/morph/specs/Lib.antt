@@ -11,3 +11,4 @@ pub mod Cell
 pub mod Origin
 pub mod Numbers
 pub mod Inner
+pub mod Refusals
