@@ -2,37 +2,34 @@
 use Prim.Native.Nat.{◌+◌}
 use mathlib.Core.Path.{◌≡◌, refl, sym, ap, ◌∙◌}
 use native.Mathlib.Omega.{arith}
+use Rattle.std.proofs.lemmas.List.{get_or_read_under}
 use lib.ListN.{length}
 use Rattle.morph.specs.Ring.{wrap}
 use Rattle.morph.proofs.Ring.{wrap_low}
-use Rattle.sample.specs.Samples.{greys}
 use Rattle.row.proofs.Row.{read_first, read_next, behind_next}
-use Rattle.row_grey.proofs.read_row.Goals as goal
+use Rattle.row.proofs.read_row.Goals as goal
 
 pub loop-t-init : goal.loop-t-init
-loop-t-init c =
+loop-t-init g c =
     let s = c in
-    (omega arith, c.wide-n.ensures.0 ∙ c.position.ensures, sym (wrap_low 63 (0 + 0) (omega arith)), read_first greys _ _ _ _ _ _ s.requires.3 s.requires.4)
+    (c.wide-n.ensures.0 ∙ c.position.ensures, sym (wrap_low 63 (0 + 0) (omega arith)), read_first g.S.Sample.samples _ _ _ _ _ _ s.requires.3 s.requires.4)
 
 pub push_within-r-requires : goal.push_within-r-requires
-push_within-r-requires c =
+push_within-r-requires g c =
     let at-loop = c in
     let s = at-loop in
     let l = at-loop.loop-t in
-    let r = l.invariant.3 in
-    let e = l.invariant.2 ∙ ap (λ n. wrap n (l.start + l.count)) (sym r.values_long) in
+    let r = l.invariant.2 in
+    let e = l.invariant.1 ∙ ap (λ n. wrap n (l.start + l.count)) (sym r.values_long) in
     (omega (arith, r.below, r.values_long), r.fits, omega arith, omega (arith, s.requires.0, s.requires.1, r.values_long), omega (arith, r.values_long), r.positions_long ∙ sym r.values_long, e)
 
 pub answer-requires : goal.answer-requires
-answer-requires c =
+answer-requires g c =
     let at_test = c in
-    let i = at_test.loop-t.invariant in omega (arith, i.1, i.3.long, at_test.loop-t-test.true)
-
-pub loop-t-smaller : goal.loop-t-smaller
-loop-t-smaller c = omega (arith, c.loop-t-test.true)
+    let i = at_test.loop-t.invariant in omega (arith, i.0, i.2.long, at_test.loop-t-test.true)
 
 pub loop-t-preserved : goal.loop-t-preserved
-loop-t-preserved c =
+loop-t-preserved g c =
     let at_front = c in
     let at_next = at_front in
     let at_push = at_next in
@@ -46,13 +43,13 @@ loop-t-preserved c =
     let p = at_push.push_within-r in
     let r = p.result in
     let m = p.ensures in
-    let w = i.3.values_long in (
-      omega (arith, more),
-      i.1,
+    let w = i.2.values_long in
+    let read = get_or_read_under at-loop.loop-t.row at-loop.loop-t.t _ _ g.S.Sample.samples.order.blank c.index-row-t.is (omega (arith, i.0, i.2.long, more)) refl in (
+      i.0,
       at_next.next-behind.ensures.0 ∙ behind_next 63 r (m.0.behind ∙ ap (λ n. wrap n (r.start + r.count)) w) (omega (arith, m.0.below)) (omega (arith, m.0.fits, s.requires.0, s.requires.1)),
       rw (c.answer.ensures, m.1, m.2, e)
-          (read_next greys _ _ _ _ _ _ _ _ _ _ _ i.3 _ _ r (omega (arith, i.1, more)) s.requires.0 s.requires.1 refl (rw e at m.0) (rw m.1 at at_front.front-front.ensures.0)),
+          (read_next g.S.Sample.samples _ _ _ _ _ _ _ _ _ _ _ i.2 _ _ r (omega (arith, i.0, more)) s.requires.0 s.requires.1 read (rw e at m.0) (rw m.1 at at_front.front-front.ensures.0)),
     )
 
 pub returns : goal.returns
-returns c = let e : c.loop-t.t ≡ length c.args.row.now = omega arith in rw e at c.loop-t.invariant.3
+returns g c = let e : c.loop-t.t ≡ length c.args.row.now = omega arith in rw e at c.loop-t.invariant.2

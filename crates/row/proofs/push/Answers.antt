@@ -5,10 +5,10 @@ use native.Mathlib.Omega.{arith}
 use borrow.Author.Rules.{rules}
 use lib.ListN.{length}
 use Rattle.morph.specs.Ring.{wrap}
-use Rattle.row_grey.proofs.push.Goals as goal
+use Rattle.row.proofs.push.Goals as goal
 
 pub push_within-r-requires : goal.push_within-r-requires
-push_within-r-requires c =
+push_within-r-requires g c =
     let s = c in
     let q = s.args.q in
     let l : length q.values ≡ 63 = search rules in
@@ -17,4 +17,4 @@ push_within-r-requires c =
     (omega arith, s.requires.1, s.requires.2, omega arith, omega arith, m ∙ sym l, b)
 
 pub returns : goal.returns
-returns c = let p = c.push_within-r.ensures in (p.0, p.1, p.2, refl, refl, search rules, search rules)
+returns g c = let p = c.push_within-r.ensures in (p.0, p.1, p.2, refl, refl, search rules, search rules)
