@@ -1,6 +1,6 @@
 -- `run` meets its contract: the stage's own step on the front of the memory, and the stages behind it on the rest; the stages left fall.
 use native.Mathlib.Omega.{arith}
-use Rattle.chain.proofs.Run.{after_none, after_more, ready_begins, plan_none, plan_early, rest_ready, plan_back}
+use Rattle.chain.proofs.Plan.{after_none, after_more, ready_begins, plan_none, plan_early, rest_ready, plan_back}
 use Rattle.chain.proofs.+run.Goals as goal
 
 pub returns-then-count-i : goal.returns-then-count-i
@@ -27,7 +27,7 @@ run-rest-requires g t c =
     let one-more = after_more c.args.plan c.args.i c.requires.3 c.well_formed.0.1.1.1.0.1.0.1 c.if-count-i.false in
     let ready = rw one-more at c.requires.0 in
     let f = c.run_front-f.ensures in
-    (omega (arith, c.decreases), (rest_ready g.S.Sample.samples _ _ _ _ _ _ ready _ _ _ f.0 _ f.1, c.requires.1, omega arith, c.requires.3))
+    λ κs o. (omega (arith, c.decreases), (o, (rest_ready g.S.Sample.samples _ _ _ _ _ _ ready _ _ _ f.0 _ f.1, c.requires.1, omega arith, c.requires.3)))
 
 pub returns : goal.returns
 returns g t c =

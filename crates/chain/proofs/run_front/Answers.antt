@@ -1,6 +1,6 @@
 -- `run_front` meets its contract: the stage's own step on its part, which comes back before what is behind.
 use Rattle.memory.specs.Memory.{memory}
-use Rattle.chain.proofs.Run.{front_lent, front_back}
+use Rattle.chain.proofs.Plan.{front_lent, front_back}
 use Rattle.chain.proofs.run_front.Goals as goal
 
 pub step-comparisons-requires : goal.step-comparisons-requires
