@@ -1,27 +1,27 @@
-// Rows of grey bytes with their origins: a row filtered in place, as crate row_grey does it, and beside each answer the column that gave it, the latest where several did.
+// Rows with their origins: a row filtered in place, as crate row does it, and beside each answer the column that gave it, the latest where several did.
 // It is the position of the queue's front, so that it takes one more store for each pixel and no comparison.
 #![tactic(auto)]
 
 ghost use Rattle.std.specs.Prelude.{◌≡◌, ◌+◌, ◌≤◌, ◌<◌, length};
-ghost use Rattle.sample.specs.Samples.{greys};
 ghost use Rattle.row.specs.Inner.{ReadOrigins, AcrossOrigins, DrainedOrigins};
 
 use morph::Kind;
-use queue_grey::Entry;
-use row_grey::{Passed, RowQueue, answer};
+use queue::Entry;
+use row::{Passed, RowQueue, answer};
+use sample::Sample;
 
-// The steps that read, as in row_grey: the queue's start and count stand in locals until all are read, and the length goes by way of a position.
-fn read_row(
+// The steps that read, as in row: the queue's start and count stand in locals until all are read, and the length goes by way of a position.
+fn read_row<S: Sample>(
     kind: Kind,
-    values: &mut [u8; 63],
+    values: &mut [S; 63],
     positions: &mut [u16; 63],
     back: usize,
     ahead: usize,
-    row: &mut [u8],
+    row: &mut [S],
     columns: &mut [u16],
 ) -> Passed
     requires { (back ≤ 31) × (ahead ≤ 31) × (length row.old ≤ 65535) × (length columns.old ≡ length row.old) × (length values.old ≡ 63) × (length positions.old ≡ 63) }
-    ensures { ReadOrigins greys kind back ahead row.old columns.old (length row.old) row.new columns.new values.new positions.new result.start result.count result.comparisons }
+    ensures { ReadOrigins S.samples kind back ahead row.old columns.old (length row.old) row.new columns.new values.new positions.new result.start result.count result.comparisons }
 {
     let window = back + ahead + 1;
     let n = queue::wide(row::position(row.len()));
@@ -29,21 +29,19 @@ fn read_row(
     let mut count = 0;
     let mut behind = 0;
     let mut comparisons = 0;
-    let mut t = 0;
-    while t < n {
+    for t in 0..n {
         let e = Entry {
             value: row[t],
             position: row::position(t),
         };
-        let r = queue_grey::push_within(kind, window, values, positions, start, count, behind, e);
+        let r = queue::push_within(kind, window, values, positions, start, count, behind, e);
         start = r.start;
         count = r.count + 1;
         behind = queue::next(r.at, 63);
         comparisons += r.comparisons;
-        let front = queue_grey::front(&values[..], &positions[..], start);
+        let front = queue::front(&values[..], &positions[..], start);
         answer(row, ahead, t, front.value);
         row::locate(columns, ahead, t, front.position);
-        t += 1;
     }
     Passed {
         start: start,
@@ -53,39 +51,43 @@ fn read_row(
 }
 
 // The steps that drain, whatever row the queue and the answers so far are from.
-fn drain_row(q: RowQueue, back: usize, ahead: usize, row: &mut [u8], columns: &mut [u16])
+fn drain_row<S: Sample>(
+    q: RowQueue<S>,
+    back: usize,
+    ahead: usize,
+    row: &mut [S],
+    columns: &mut [u16],
+)
     requires { (back ≤ 31) × (ahead ≤ 31) × (length row.old ≤ 65535) × (length columns.old ≡ length row.old) × (q.start < 63) × (q.count ≤ back + ahead + 1) }
-    ensures { DrainedOrigins greys back ahead row.old columns.old q.values q.positions q.start q.count row.new columns.new }
+    ensures { DrainedOrigins S.samples back ahead row.old columns.old q.values q.positions q.start q.count row.new columns.new }
 {
     let window = back + ahead + 1;
     let n = row.len();
     let end = n + ahead;
     let mut start = q.start;
     let mut count = q.count;
-    let mut t = n;
-    while t < end {
+    for t in n..end {
         let gone = queue::goes(&q.positions, start, count, window, t);
         start = queue::slot(start, gone, 63);
         count -= gone;
-        let oldest = queue_grey::front(&q.values, &q.positions, start);
+        let oldest = queue::front(&q.values, &q.positions, start);
         answer(row, ahead, t, oldest.value);
         row::locate(columns, ahead, t, oldest.position);
-        t += 1;
     }
 }
 
 // All pixels are read. The kind is chosen here once, by a literal, so that no loop has to ask for it.
-fn read_all(
+fn read_all<S: Sample>(
     kind: Kind,
-    values: &mut [u8; 63],
+    values: &mut [S; 63],
     positions: &mut [u16; 63],
     back: usize,
     ahead: usize,
-    row: &mut [u8],
+    row: &mut [S],
     columns: &mut [u16],
 ) -> Passed
     requires { (back ≤ 31) × (ahead ≤ 31) × (length row.old ≤ 65535) × (length columns.old ≡ length row.old) × (length values.old ≡ 63) × (length positions.old ≡ 63) }
-    ensures { ReadOrigins greys kind back ahead row.old columns.old (length row.old) row.new columns.new values.new positions.new result.start result.count result.comparisons }
+    ensures { ReadOrigins S.samples kind back ahead row.old columns.old (length row.old) row.new columns.new values.new positions.new result.start result.count result.comparisons }
 {
     match kind {
         Kind::Erosion => read_row(Kind::Erosion, values, positions, back, ahead, row, columns),
@@ -94,11 +96,17 @@ fn read_all(
 }
 
 // A row filtered in place, and where its answers came from; the comparisons made.
-pub fn across(kind: Kind, back: usize, ahead: usize, row: &mut [u8], columns: &mut [u16]) -> usize
+pub fn across<S: Sample>(
+    kind: Kind,
+    back: usize,
+    ahead: usize,
+    row: &mut [S],
+    columns: &mut [u16],
+) -> usize
     requires { (back ≤ 31) × (ahead ≤ 31) × (length row.old ≤ 65535) × (length columns.old ≡ length row.old) }
-    ensures { AcrossOrigins greys kind back ahead row.old columns.old row.new columns.new result }
+    ensures { AcrossOrigins S.samples kind back ahead row.old columns.old row.new columns.new result }
 {
-    let room = row_grey::empty();
+    let room = row::empty();
     let mut values = room.values;
     let mut positions = room.positions;
     let passed = read_all(kind, &mut values, &mut positions, back, ahead, row, columns);
