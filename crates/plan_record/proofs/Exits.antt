@@ -1,8 +1,5 @@
 -- The exits of a judge: what a `?` hands up is the number that the rule gave, and it is the first that is not 0.
-use mathlib.Core.Path.{◌≡◌, refl, ◌∙◌}
-use mathlib.Core.List.{List, ◌∷◌}
-use Prim.Native.Nat.{ℕ}
-use Rattle.std.specs.Prelude.{Result, Ok, Err}
+use Rattle.std.proofs.Common.{Result, Ok, Err, ◌≡◌, refl, ◌∙◌, List, ◌∷◌, ℕ}
 use Rattle.std.specs.Result.{IsErrAnd}
 use Rattle.morph.specs.declared.refusal.Refusal.{Refusal}
 use Rattle.morph.specs.declared.refusal.Refusal.TheVariants.{StageCount, StageKind, Extent, Size, SampleKind, Memory, RowLength, NotFinite, AllRead, NoDrain, NotThere, State, EndsEarly, BytesAfter, Cells, Negative, FilterOrder, OverOneStage, EmptyBand, LastNumber}
