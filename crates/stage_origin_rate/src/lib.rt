@@ -41,7 +41,7 @@ fn take_row(
         row,
         &mut columns[lo..hi],
     );
-    let c = stage_rate::read_columns(
+    let c = stage::read_columns(
         kind,
         places,
         values,
@@ -72,6 +72,6 @@ pub fn move_on(
     if t < rows {
         return take_row(stage, t, values, positions, columns, starts, lengths, row);
     }
-    columns::drain(size_of(stage), &positions[..], starts, lengths, t);
+    columns::drain::<S>(size_of(stage), &positions[..], starts, lengths, t);
     0
 }
