@@ -11,6 +11,8 @@ ghost use Rattle.picture_origin.specs.Inner.{FrontsReady, OriginsFronted, Fronts
 ghost use Rattle.picture_origin.specs.Numbers.{five_slices, three_rows};
 ghost use Rattle.picture_origin_step.specs.Lent.{given, left, given_rows, left_rows};
 
+use picture_origin::judging::{Outs, judge_origin_drain, judge_origin_row};
+use picture_state::judging::Lending;
 use picture_state::{State, Stepped};
 use sample::Sample;
 
@@ -151,21 +153,20 @@ pub fn origin_row<S: Sample>(
 ) -> Stepped
     ensures { OriginRowStep S.samples S.NUMBER state (given lent.entry) row.now (given_rows rows.entry) (left lent.exit) (left_rows rows.exit) result.answer result.state }
 {
-    let number = picture_origin::judging::judge_origin_row(
-        S::NUMBER,
-        state,
-        row.len(),
-        rows.pixels.len(),
-        rows.rows.len(),
-        rows.columns.len(),
-        lent.values.len(),
-        lent.positions.len(),
-        lent.columns.len(),
-        &lent.starts[..],
-        &lent.lengths[..],
-    );
-    if number != 0 {
-        return picture_state::refuses(state, number, 0);
+    let lending = Lending {
+        values: lent.values.len(),
+        positions: lent.positions.len(),
+        starts: &lent.starts[..],
+        lengths: &lent.lengths[..],
+    };
+    let outs = Outs {
+        out: rows.pixels.len(),
+        rows: rows.rows.len(),
+        columns: rows.columns.len(),
+    };
+    let columns = lent.columns.len();
+    if let Err(refusal) = judge_origin_row(S::NUMBER, state, row.len(), outs, columns, lending) {
+        return picture_state::refuses(state, refusal.number(), 0);
     }
     let bad = S::first_bad(row);
     if bad < row.len() {
@@ -181,20 +182,20 @@ pub fn origin_row<S: Sample>(
 pub fn origin_drain<S: Sample>(state: State, rows: OriginRows<S>, lent: OriginLent<S>) -> Stepped
     ensures { OriginDrainStep S.samples S.NUMBER state (given lent.entry) (given_rows rows.entry) (left lent.exit) (left_rows rows.exit) result.answer result.state }
 {
-    let number = picture_origin::judging::judge_origin_drain(
-        S::NUMBER,
-        state,
-        rows.pixels.len(),
-        rows.rows.len(),
-        rows.columns.len(),
-        lent.values.len(),
-        lent.positions.len(),
-        lent.columns.len(),
-        &lent.starts[..],
-        &lent.lengths[..],
-    );
-    if number != 0 {
-        return picture_state::refuses(state, number, 0);
+    let lending = Lending {
+        values: lent.values.len(),
+        positions: lent.positions.len(),
+        starts: &lent.starts[..],
+        lengths: &lent.lengths[..],
+    };
+    let outs = Outs {
+        out: rows.pixels.len(),
+        rows: rows.rows.len(),
+        columns: rows.columns.len(),
+    };
+    let columns = lent.columns.len();
+    if let Err(refusal) = judge_origin_drain(S::NUMBER, state, outs, columns, lending) {
+        return picture_state::refuses(state, refusal.number(), 0);
     }
     let width = rows.pixels.len();
     let mut room = blank::<S>();

@@ -16,6 +16,7 @@ ghost use Rattle.picture_step.specs.Shown.{shown};
 
 use memory::Lent;
 use morph::Refusal;
+use picture_state::judging::{Lending, judge_drain, judge_row};
 use picture_state::{State, Stepped};
 use queue::RowEntry;
 use sample::Sample;
@@ -68,18 +69,14 @@ fn blank<S: Sample>() -> [S; 4096]
 pub fn row<S: Sample>(state: State, row: &[S], out: &mut [S], lent: Lent<S>) -> Stepped
     ensures { RowStep S.samples S.NUMBER state (given lent.entry) row.now out.old (left lent.exit) out.new result.answer result.state }
 {
-    let number = picture_state::judging::judge_row(
-        S::NUMBER,
-        state,
-        row.len(),
-        out.len(),
-        lent.values.len(),
-        lent.positions.len(),
-        &lent.starts[..],
-        &lent.lengths[..],
-    );
-    if number != 0 {
-        return picture_state::refuses(state, number, 0);
+    let lending = Lending {
+        values: lent.values.len(),
+        positions: lent.positions.len(),
+        starts: &lent.starts[..],
+        lengths: &lent.lengths[..],
+    };
+    if let Err(refusal) = judge_row(S::NUMBER, state, row.len(), out.len(), lending) {
+        return picture_state::refuses(state, refusal.number(), 0);
     }
     let bad = S::first_bad(row);
     if bad < row.len() {
@@ -95,17 +92,14 @@ pub fn row<S: Sample>(state: State, row: &[S], out: &mut [S], lent: Lent<S>) -> 
 pub fn drain<S: Sample>(state: State, out: &mut [S], lent: Lent<S>) -> Stepped
     ensures { DrainStep S.samples S.NUMBER state (given lent.entry) out.old (left lent.exit) out.new result.answer result.state }
 {
-    let number = picture_state::judging::judge_drain(
-        S::NUMBER,
-        state,
-        out.len(),
-        lent.values.len(),
-        lent.positions.len(),
-        &lent.starts[..],
-        &lent.lengths[..],
-    );
-    if number != 0 {
-        return picture_state::refuses(state, number, 0);
+    let lending = Lending {
+        values: lent.values.len(),
+        positions: lent.positions.len(),
+        starts: &lent.starts[..],
+        lengths: &lent.lengths[..],
+    };
+    if let Err(refusal) = judge_drain(S::NUMBER, state, out.len(), lending) {
+        return picture_state::refuses(state, refusal.number(), 0);
     }
     let width = out.len();
     let mut room = blank::<S>();
@@ -145,16 +139,13 @@ pub fn read_out<'a, S: Sample>(
 ) -> Result<RowEntry<S>, Refusal>
     ensures { Shows S.samples S.NUMBER state (memory values.now positions.now starts.now lengths.now) stage column place (shown result) }
 {
-    picture_state::place::judge_place(
-        S::NUMBER,
-        state,
-        stage,
-        column,
-        values.len(),
-        positions.len(),
-        starts,
-        lengths,
-    )?;
+    let lending = Lending {
+        values: values.len(),
+        positions: positions.len(),
+        starts: starts,
+        lengths: lengths,
+    };
+    picture_state::place::judge_place(S::NUMBER, state, stage, column, lending)?;
     let own = state.plan;
     let plan = picture_state::whole(own);
     let width = state.width;
