@@ -5,7 +5,7 @@ ghost use Rattle.std.specs.Prelude.{◌≡◌, map, ◌+◌, ◌≤◌, ◌<◌,
 ghost use Rattle.morph.specs.Line.{found, refused};
 ghost use Rattle.morph.specs.Cell.{read_at};
 ghost use Rattle.plan_record.specs.Plan.{plan_ahead};
-ghost use Rattle.columns.specs.Inner.{Lent};
+ghost use Rattle.columns.specs.Inner.{Lent as LentColumns};
 ghost use Rattle.memory.specs.Memory.{memory, column_at};
 ghost use Rattle.memory.specs.Lent.{given, left};
 ghost use Rattle.picture_state.specs.Numbers.{height_of};
@@ -22,9 +22,17 @@ use queue::RowEntry;
 use sample::Sample;
 
 // A step that is accepted, over a row of the width that the stages may write on.
-fn advance<S: Sample>(state: State, work: &mut [S], out: &mut [S], lent: Lent<S>) -> Stepped
-    requires { Fit state (given lent) × (length work.old ≡ state.width) × (length out.old ≡ state.width) × (state.step < height_of state + plan_ahead state.plan) }
-    ensures { Advanced S.samples state (given lent.entry) work.old out.old (left lent.exit) out.new result.answer result.state }
+fn advance<S: Sample>(
+    state: State,
+    work: &mut [S],
+    out: &mut [S],
+    values: &mut [S],
+    positions: &mut [u8],
+    starts: &mut [u8],
+    lengths: &mut [u8],
+) -> Stepped
+    requires { Fit state (memory values.old positions.old starts.old lengths.old) × (length work.old ≡ state.width) × (length out.old ≡ state.width) × (state.step < height_of state + plan_ahead state.plan) }
+    ensures { Advanced S.samples state (memory values.old positions.old starts.old lengths.old) work.old out.old (memory values.new positions.new starts.new lengths.new) out.new result.answer result.state }
 {
     let own = state.plan;
     let plan = picture_state::whole(own);
@@ -33,12 +41,6 @@ fn advance<S: Sample>(state: State, work: &mut [S], out: &mut [S], lent: Lent<S>
     let t = state.step;
     let cells = plan_record::cells(plan, width);
     let records = plan_record::records(plan, width);
-    let Lent {
-        values,
-        positions,
-        starts,
-        lengths,
-    } = lent;
     let ran = chain::run(
         plan,
         0,
@@ -69,11 +71,17 @@ fn blank<S: Sample>() -> [S; 4096]
 pub fn row<S: Sample>(state: State, row: &[S], out: &mut [S], lent: Lent<S>) -> Stepped
     ensures { RowStep S.samples S.NUMBER state (given lent.entry) row.now out.old (left lent.exit) out.new result.answer result.state }
 {
+    let Lent {
+        values,
+        positions,
+        starts,
+        lengths,
+    } = lent;
     let lending = Lending {
-        values: lent.values.len(),
-        positions: lent.positions.len(),
-        starts: &lent.starts[..],
-        lengths: &lent.lengths[..],
+        values: values.len(),
+        positions: positions.len(),
+        starts: &starts[..],
+        lengths: &lengths[..],
     };
     if let Err(refusal) = judge_row(S::NUMBER, state, row.len(), out.len(), lending) {
         return picture_state::refuses(state, refusal.number(), 0);
@@ -85,25 +93,47 @@ pub fn row<S: Sample>(state: State, row: &[S], out: &mut [S], lent: Lent<S>) -> 
     let width = row.len();
     let mut room = blank::<S>();
     S::take_in(row, &mut room[..width]);
-    advance(state, &mut room[..width], out, lent)
+    advance(
+        state,
+        &mut room[..width],
+        out,
+        values,
+        positions,
+        starts,
+        lengths,
+    )
 }
 
 // A step without a row, once all are read.
 pub fn drain<S: Sample>(state: State, out: &mut [S], lent: Lent<S>) -> Stepped
     ensures { DrainStep S.samples S.NUMBER state (given lent.entry) out.old (left lent.exit) out.new result.answer result.state }
 {
+    let Lent {
+        values,
+        positions,
+        starts,
+        lengths,
+    } = lent;
     let lending = Lending {
-        values: lent.values.len(),
-        positions: lent.positions.len(),
-        starts: &lent.starts[..],
-        lengths: &lent.lengths[..],
+        values: values.len(),
+        positions: positions.len(),
+        starts: &starts[..],
+        lengths: &lengths[..],
     };
     if let Err(refusal) = judge_drain(S::NUMBER, state, out.len(), lending) {
         return picture_state::refuses(state, refusal.number(), 0);
     }
     let width = out.len();
     let mut room = blank::<S>();
-    advance(state, &mut room[..width], out, lent)
+    advance(
+        state,
+        &mut room[..width],
+        out,
+        values,
+        positions,
+        starts,
+        lengths,
+    )
 }
 
 // Place k of column x's queue, in a stage's part of the memory, s being the stage's own steps done.
@@ -117,7 +147,7 @@ fn show<'a, S: Sample>(
     k: usize,
     s: usize,
 ) -> Result<RowEntry<S>, Refusal>
-    requires { Lent places (length starts.now) positions.now starts.now lengths.now × (length values.now ≡ length positions.now) × (x < length starts.now) × (s ≤ 4294967800) }
+    requires { LentColumns places (length starts.now) positions.now starts.now lengths.now × (length values.now ≡ length positions.now) × (x < length starts.now) × (s ≤ 4294967800) }
     ensures { shown result ≡ place_shown S.samples (map (read_at s) (column_at S.samples places values.now positions.now starts.now lengths.now x)) k }
 {
     if usize::from(lengths[x]) <= k {

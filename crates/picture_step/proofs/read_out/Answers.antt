@@ -1,8 +1,16 @@
 -- `read_out` meets its contract: judged, and then the place is looked for in the stage's part.
-use mathlib.Core.Path.{◌≡◌, sym, ◌∙◌}
+use mathlib.Core.Path.{◌≡◌, sym}
 use Prim.Native.Nat.{◌*◌, ◌≤◌, ◌<◌}
 use native.Mathlib.Omega.{arith}
 use lib.ListN.{length}
+use Rattle.std.specs.Prelude.{Result, Ok, Err, IsErrAnd}
+use Rattle.std.proofs.Common.{ap}
+use Rattle.morph.specs.declared.refusal.Refusal.{Refusal}
+use Rattle.morph.specs.Refusals.{refusal_number}
+use Rattle.morph.specs.Line.{refused}
+use Rattle.queue.specs.declared.RowEntry.{RowEntry}
+use Rattle.picture_step.specs.Shown.{shown}
+use Rattle.plan_record.proofs.Exits.{refused_some}
 use Rattle.memory.specs.Memory.{memory}
 use Rattle.plan_record.proofs.Laws.{mul_most}
 use Rattle.picture_state.specs.Inner.{Accepted, placed_number}
@@ -12,17 +20,21 @@ use Rattle.picture_step.proofs.read_out.Goals as goal
 use Rattle.picture_step.proofs.read_out.Given.{Over}
 use Rattle.picture_step.proofs.read_out.Goals.{After-part_of-part, After-whole-plan}
 
+shown_up : {A : Type 0} (r : Result (RowEntry A) Refusal) (refusal : Refusal) → IsErrAnd r (λ e. e ≡ refusal) → shown r ≡ refused (refusal_number refusal)
+shown_up (Ok _) refusal h = absurd h
+shown_up (Err e) refusal h = ap (λ x. refused (refusal_number x)) h
+
 -- the state, the memory, the stage and the column are judged, and nothing is wrong
-judged : (g : Over) (c : After-whole-plan g) → (placed_number g.S.Sample.NUMBER c.args.state c.args.stage c.args.column (length c.args.values.now) (length c.args.positions.now) c.args.starts.now c.args.lengths.now ≡ 0)
-judged g c = sym c.judge_place-number.ensures ∙ c.if-number-ne0.false
+judged : (g : Over) (c : After-whole-plan g) → (placed_number c.NUMBER.result c.args.state c.args.stage c.args.column (length c.args.values.now) (length c.args.positions.now) c.args.starts.now c.args.lengths.now ≡ 0)
+judged g c = sym c.in_ok-judge_place.ensures
 
 asked : (g : Over) (c : After-whole-plan g) → (Accepted c.whole-plan.result × (c.args.stage < c.whole-plan.result.count) × (c.args.state.width ≤ 4096) × (height_of c.args.state ≤ 4294967297) × (c.args.state.step ≤ 4294967792))
-asked g c = placed_part g.S.Sample.NUMBER c.args.state (memory c.args.values.now c.args.positions.now c.args.starts.now c.args.lengths.now) c.args.stage c.args.column _ c.whole-plan.ensures.0 (judged g c)
+asked g c = placed_part c.NUMBER.result c.args.state (memory c.args.values.now c.args.positions.now c.args.starts.now c.args.lengths.now) c.args.stage c.args.column _ c.whole-plan.ensures.0 (judged g c)
 
 -- the place named, once its stage's part is known
 at : (g : Over) (c : After-part_of-part g) → (Place c.args.state (memory c.args.values.now c.args.positions.now c.args.starts.now c.args.lengths.now) c.args.stage c.args.column c.part_of-part.result.cells c.part_of-part.result.places c.own_steps-steps.result)
 at g c =
-    placed_place g.S.Sample.NUMBER c.args.state (memory c.args.values.now c.args.positions.now c.args.starts.now c.args.lengths.now) c.args.stage c.args.column _ _ _ _ _ c.whole-plan.ensures (sym c.judge_place-number.ensures ∙ c.if-number-ne0.false) c.part_of-part.ensures c.height-rows.ensures c.own_steps-steps.ensures
+    placed_place c.NUMBER.result c.args.state (memory c.args.values.now c.args.positions.now c.args.starts.now c.args.lengths.now) c.args.stage c.args.column _ _ _ _ _ c.whole-plan.ensures (sym c.in_ok-judge_place.ensures) c.part_of-part.ensures c.height-rows.ensures c.own_steps-steps.ensures
 
 -- that part lies within the memory
 within : (g : Over) (c : After-part_of-part g) → (Within c.args.state.width c.args.stage c.part_of-part.result.cells c.part_of-part.result.places (memory c.args.values.now c.args.positions.now c.args.starts.now c.args.lengths.now))
@@ -30,11 +42,13 @@ within g c = place_within c.args.state (memory c.args.values.now c.args.position
 
 -- and the records before it are few
 records_few : (g : Over) (c : After-part_of-part g) → (c.args.stage * c.args.state.width ≤ 16 * 4096)
-records_few g c = let a = (placed_part g.S.Sample.NUMBER c.args.state (memory c.args.values.now c.args.positions.now c.args.starts.now c.args.lengths.now) c.args.stage c.args.column _ c.whole-plan.ensures.0 (sym c.judge_place-number.ensures ∙ c.if-number-ne0.false)) in mul_most c.args.stage c.args.state.width 16 4096 (omega (arith, a.1, a.0.few)) a.2
+records_few g c = let a = (placed_part c.NUMBER.result c.args.state (memory c.args.values.now c.args.positions.now c.args.starts.now c.args.lengths.now) c.args.stage c.args.column _ c.whole-plan.ensures.0 (sym c.in_ok-judge_place.ensures)) in mul_most c.args.stage c.args.state.width 16 4096 (omega (arith, a.1, a.0.few)) a.2
 
-pub returns-then-number-ne0 : goal.returns-then-number-ne0
-returns-then-number-ne0 g c =
-    shows_refused g.S.Sample.samples g.S.Sample.NUMBER c.args.state (memory c.args.values.now c.args.positions.now c.args.starts.now c.args.lengths.now) _ _ _ _ _ c.judge_place-number.ensures c.if-number-ne0.true c.lacks.ensures
+pub returns-in_err-judge_place : goal.returns-in_err-judge_place
+returns-in_err-judge_place g c =
+    let r = c.in_err-judge_place.field-0.0 in
+    rw c.NUMBER.ensures at
+    (shows_refused g.S.Sample.samples c.NUMBER.result c.args.state (memory c.args.values.now c.args.positions.now c.args.starts.now c.args.lengths.now) c.args.stage c.args.column c.args.place (refusal_number r) (shown c.from_residual.result) c.in_err-judge_place.ensures (refused_some r) (shown_up c.from_residual.result r c.from_residual.ensures.1))
 
 pub height-rows-requires : goal.height-rows-requires
 height-rows-requires g c = (asked g c).4
@@ -77,4 +91,5 @@ show-requires g c = place_asks _ _ _ _ _ _ _ (at g (goal.at.show-requires g c).A
 
 pub returns : goal.returns
 returns g c =
-    shows_place _ _ _ _ _ _ _ (at g (goal.at.returns g c).After-part_of-part) g.S.Sample.samples g.S.Sample.NUMBER c.args.place _ (judged g (goal.at.returns g c).After-whole-plan) c.show.ensures
+    rw c.NUMBER.ensures at
+    (shows_place _ _ _ _ _ _ _ (at g (goal.at.returns g c).After-part_of-part) g.S.Sample.samples c.NUMBER.result c.args.place _ (judged g (goal.at.returns g c).After-whole-plan) c.show.ensures)
