@@ -9,10 +9,8 @@ pub fn take_in(bytes: &[u8], row: &mut [f32])
     requires { length bytes.now ≡ length row.old * 4 }
     ensures { row.new ≡ floats_of (length row.old) bytes.now }
 {
-    let mut i = 0;
-    while i < row.len() {
+    for i in 0..row.len() {
         row[i] = sample::rate::from_bytes(bytes, i * 4);
-        i += 1;
     }
 }
 
@@ -22,9 +20,7 @@ pub fn give_out(row: &[f32], frame: &mut [u8])
     ensures { frame.new ≡ 1 ∷ bytes_of_row row.now }
 {
     frame[0] = 1;
-    let mut i = 0;
-    while i < row.len() {
+    for i in 0..row.len() {
         sample::rate::to_bytes(row[i], frame, 1 + i * 4);
-        i += 1;
     }
 }

@@ -9,20 +9,10 @@ ghost use Rattle.sample.specs.Rate.{passes_of, accepted};
 ghost use Rattle.sample.specs.Bytes.{float_of, float_at, bytes_of};
 ghost use Rattle.sample.specs.Samples.{first_bad, rates};
 
+use crate::Sample;
 use morph::Kind;
 
 // ---- one float
-
-// Whether the new value equals or passes the old one: for dilation by being as large, for erosion by being as small.
-// Exact for every float; a NaN passes nothing and nothing passes it.
-pub fn passes(kind: Kind, new: f32, old: f32) -> bool
-    ensures { result ≡ passes_of kind new old }
-{
-    match kind {
-        Kind::Erosion => new <= old,
-        Kind::Dilation => old <= new,
-    }
-}
 
 // IEEE 754's binary32 is a sign bit, eight exponent bits and 23 fraction bits. A float is finite exactly when its exponent bits are not all ones.
 pub fn is_finite(x: f32) -> bool
@@ -104,10 +94,8 @@ fn all_finite(row: &[f32]) -> bool
     ensures { result ≡ all finite row.now }
 {
     let mut good = true;
-    let mut i = 0;
-    while i < row.len() {
-        good = good & is_finite(row[i]);
-        i += 1;
+    for &x in row {
+        good = good & is_finite(x);
     }
     good
 }
@@ -117,10 +105,8 @@ pub fn all_accepted(row: &[f32]) -> bool
     ensures { result ≡ all accepted row.now }
 {
     let mut good = true;
-    let mut i = 0;
-    while i < row.len() {
-        good = good & is_accepted(row[i]);
-        i += 1;
+    for &x in row {
+        good = good & is_accepted(x);
     }
     good
 }
@@ -129,14 +115,12 @@ pub fn all_accepted(row: &[f32]) -> bool
 fn search(row: &[f32]) -> usize
     ensures { result ≡ first_bad rates row.now }
 {
-    let mut i = 0;
-    while i < row.len() {
-        if !is_finite(row[i]) {
+    for (i, &x) in row.iter().enumerate() {
+        if !is_finite(x) {
             return i;
         }
-        i += 1;
     }
-    i
+    row.len()
 }
 
 // The first column that is not finite; the length if there is none. It searches only a row that is known to have one.
@@ -153,21 +137,47 @@ pub fn first_not_finite(row: &[f32]) -> usize
 pub fn clean(row: &mut [f32])
     ensures { row.new ≡ map plus_zero_of row.old }
 {
-    let mut i = 0;
-    while i < row.len() {
-        row[i] = plus_zero(row[i]);
-        i += 1;
+    for x in row.iter_mut() {
+        *x = plus_zero(*x);
     }
 }
 
-// Copies a row onto another of its length.
-pub fn copy(from: &[f32], to: &mut [f32])
-    requires { length from.now ≡ length to.old }
-    ensures { to.new ≡ from.now }
-{
-    let mut i = 0;
-    while i < to.len() {
-        to[i] = from[i];
-        i += 1;
+// ---- the kind of samples
+
+impl Sample for f32 {
+    ghost samples = { rates };
+
+    ghost NUMBER = { 1 };
+
+    const NUMBER: u8 = 1;
+
+    fn zero() -> f32 {
+        0.0
+    }
+
+    // Exact for every float; a NaN passes nothing and nothing passes it.
+    fn passes(kind: Kind, new: f32, old: f32) -> bool {
+        match kind {
+            Kind::Erosion => new <= old,
+            Kind::Dilation => old <= new,
+        }
+    }
+
+    fn is_good(self) -> bool {
+        is_finite(self)
+    }
+
+    fn taken(self) -> f32 {
+        plus_zero(self)
+    }
+
+    fn first_bad(row: &[f32]) -> usize {
+        first_not_finite(row)
+    }
+
+    fn take_in(row: &[f32], to: &mut [f32]) {
+        for i in 0..to.len() {
+            to[i] = plus_zero(row[i]);
+        }
     }
 }

@@ -1,11 +1,6 @@
 -- The frame of the floats so far, and behind it what was there.
-use Prim.Native.Nat.{◌-◌}
-use lib.ListN.{length}
 use Rattle.floats.proofs.Bytes.{Framing}
 use Rattle.floats.proofs.give_out.Given as goal
 
 abbrev pub invariant-loop-i : goal.invariant-loop-i
 invariant-loop-i l = Framing l.row l.initial.frame l.frame l.i
-
-abbrev pub decreases-loop-i : goal.decreases-loop-i
-decreases-loop-i l = length l.row - l.i

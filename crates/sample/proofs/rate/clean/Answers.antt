@@ -8,17 +8,17 @@ use Rattle.morph.specs.Rate.{plus_zero_of}
 use Rattle.sample.proofs.Rows.{fill_start, fill_here, fill_next, fill_end}
 use Rattle.sample.proofs.rate.clean.Goals as goal
 
-pub loop-i-init : goal.loop-i-init
-loop-i-init c = let r = c.args.row.now in fill_start (map plus_zero_of r) r (sym (length-map r plus_zero_of))
+pub loop-x-init : goal.loop-x-init
+loop-x-init c = let r = c.args.row.now in fill_start (map plus_zero_of r) r (sym (length-map r plus_zero_of))
 
-pub loop-i-preserved : goal.loop-i-preserved
-loop-i-preserved c =
-    let l = c.loop-i in
+pub loop-x-preserved : goal.loop-x-preserved
+loop-x-preserved c =
+    let l = c.loop-x in
     let r = c.args.row.now in
-    fill_next _ _ l.row l.i l.invariant nan (omega arith) _ (c.plus_zero.ensures ∙ ap plus_zero_of (fill_here _ _ l.row l.i l.invariant nan (omega arith)) ∙ sym (get_or-map plus_zero_of r l.i nan))
+    fill_next _ _ l.row l.x-index l.invariant nan (omega arith) _ (c.plus_zero.ensures ∙ ap plus_zero_of (fill_here _ _ l.row l.x-index l.invariant nan (omega arith)) ∙ sym (get_or-map plus_zero_of r l.x-index nan))
 
 pub shape_of-row : goal.shape_of-row
-shape_of-row c = c.loop-i.invariant.kept
+shape_of-row c = c.loop-x.invariant.kept
 
 pub returns : goal.returns
-returns c = let l = c.loop-i in fill_end _ _ l.row l.i l.invariant (omega arith)
+returns c = let l = c.loop-x in fill_end _ _ l.row l.x-index l.invariant (omega arith)

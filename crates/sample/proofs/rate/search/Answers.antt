@@ -1,4 +1,5 @@
 -- The columns passed are finite.
+use Rattle.std.specs.Prelude.{◌≡◌, length}
 use mathlib.Core.Path.{sym, ◌∙◌}
 use native.Mathlib.Omega.{arith}
 use borrow.Author.Tests.{not-true, not-false}
@@ -19,4 +20,4 @@ loop-i-preserved c =
     search_next rates _ l.i l.invariant (omega arith) (sym f.ensures ∙ not-false f.result c.if-not-is_finite.false-raw)
 
 pub returns : goal.returns
-returns c = let l = c.loop-i in search_end rates _ l.i l.invariant (omega arith)
+returns c = let l = c.loop-i in let e : l.i ≡ length c.args.row.now = omega arith in rw e at (search_end rates _ l.i l.invariant (omega arith))

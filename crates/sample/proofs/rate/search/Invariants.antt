@@ -1,12 +1,7 @@
 -- The columns passed are finite.
-use Prim.Native.Nat.{◌-◌}
-use lib.ListN.{length}
 use Rattle.sample.specs.Samples.{rates}
 use Rattle.sample.proofs.Rows.{Searched}
 use Rattle.sample.proofs.rate.search.Given as goal
 
 abbrev pub invariant-loop-i : goal.invariant-loop-i
 invariant-loop-i l = Searched rates l.row l.i
-
-abbrev pub decreases-loop-i : goal.decreases-loop-i
-decreases-loop-i l = length l.row - l.i
