@@ -10,15 +10,19 @@ use lib.ListN.{length, get_or, take, set, replicate, length-append}
 use lib.Seq.{set-append_seam, take-append_seam, take-suc, length-take-le}
 use Rattle.morph.specs.Lists.{tabulate}
 use Rattle.morph.proofs.Lists.{length_tabulate, tabulate_snoc}
+use Rattle.std.specs.Prelude.{Result, Ok, Err}
+use Rattle.std.specs.Result.{IsErrAnd}
+use Rattle.morph.specs.declared.refusal.Refusal.{Refusal}
+use Rattle.morph.specs.Refusals.{refusal_number}
 use Rattle.morph.specs.Numbers.{first_of}
-use Rattle.morph.proofs.Numbers.{first_one, first_skip, first_zero, skip, found}
+use Rattle.morph.proofs.Numbers.{first_one, first_zero, skip, found}
 use Rattle.plan_record.specs.declared.Stage.{Stage}
 use Rattle.plan_record.specs.declared.Plan.{Plan}
 use Rattle.plan_record.specs.declared.Reading.{Reading}
 use Rattle.plan_record.specs.declared.Need.{Need}
-use Rattle.plan_record.specs.Plan.{unused, plan_of, used, total, reading_of, cells_needed, records_needed, plan_ahead, count_number, record_number, needs_of_none, needs_number, needs_of, stage_out_of, stage_number, stages_from, stages_number, plan_number, plan_read, stages_given, given_number, plan_given, sequence_stages, alternating_stages}
-use Rattle.plan_record.specs.Inner.{added, added_all}
-use Rattle.plan_record.specs.Numbers.{size_number}
+use Rattle.plan_record.specs.Plan.{unused, plan_of, used, total, reading_of, cells_needed, records_needed, plan_ahead, count_number, needs_number, needs_of, stage_out_of, stage_number, stages_from, stages_number, plan_number, plan_read, stages_given, given_number, plan_given, sequence_stages, alternating_stages}
+use Rattle.plan_record.specs.Inner.{added, added_all, need_as}
+use Rattle.plan_record.proofs.Exits.{refused_some}
 
 -- ---- a stage more
 
@@ -147,21 +151,12 @@ mul_most a b c d h k = let p = mul-le-mul_right b h in let q = mul-le-mul_left c
 
 -- ---- what to lend
 
-module _ (plan : Plan) (width : ℕ) {p : ℕ} (e : p ≡ record_number plan) where
-  pub needs_plan : {r : Need} → (p ≡ 0 → ⊥) → r ≡ needs_of_none p → r ≡ needs_of plan width
-  unfolding needs_of needs_number
-  needs_plan h f =
-      let q : p ≡ needs_number plan width = found (record_number plan) (size_number width 1 ∷ []) e h in
-      f ∙ (let g = ne_eqb p 0 h in cc)
+-- a refusal of either rule tells zeros, and its number
+pub needs_refused : (plan : Plan) (width : ℕ) (refusal : Refusal) (r : Result Need Refusal) → IsErrAnd r (λ e. e ≡ refusal) → refusal_number refusal ≡ needs_number plan width → need_as r ≡ needs_of plan width
+unfolding needs_of
+needs_refused plan width refusal (Ok _) h e = absurd h
+needs_refused plan width refusal (Err _) h e = let f = ne_eqb (refusal_number refusal) 0 (refused_some refusal) in cc
 
-  pub needs_width : {q : ℕ} {r : Need} → p ≡ 0 → q ≡ size_number width 1 → (q ≡ 0 → ⊥) → r ≡ needs_of_none q → r ≡ needs_of plan width
-  unfolding needs_of needs_number
-  needs_width {q} z s h f =
-      let n : q ≡ needs_number plan width = skip (record_number plan) (size_number width 1 ∷ []) (sym e ∙ z) (s ∙ sym (first_one (size_number width 1))) in
-      f ∙ (let g = ne_eqb q 0 h in cc)
-
-  pub needs_all : {q c n a : ℕ} → p ≡ 0 → q ≡ size_number width 1 → q ≡ 0 → c ≡ cells_needed plan width → n ≡ records_needed plan width → a ≡ plan_ahead plan → record { number = 0; cells = c; records = n; ahead = a } ≡ needs_of plan width
-  unfolding needs_of needs_number
-  needs_all {q} z s h f g k =
-      let n : needs_number plan width ≡ 0 = first_skip (record_number plan) (size_number width 1 ∷ []) (sym e ∙ z) ∙ first_one (size_number width 1) ∙ sym s ∙ h in
-      let t = eq-eqb (needs_number plan width) 0 n in cc
+pub needs_all : (plan : Plan) (width : ℕ) {c n a : ℕ} → needs_number plan width ≡ 0 → c ≡ cells_needed plan width → n ≡ records_needed plan width → a ≡ plan_ahead plan → record { number = 0; cells = c; records = n; ahead = a } ≡ needs_of plan width
+unfolding needs_of
+needs_all plan width z h f g = let t = eq-eqb (needs_number plan width) 0 z in cc

@@ -1,3 +1,4 @@
 pub mod Numbers
+pub mod Exits
 pub mod Laws
 pub mod Named

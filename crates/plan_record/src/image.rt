@@ -1,33 +1,27 @@
-// The numbers of an image's head.
+// The rules of an image's head.
 
 ghost use Rattle.std.specs.Prelude.{◌≡◌};
+ghost use Rattle.morph.specs.Refusals.{said};
 ghost use Rattle.plan_record.specs.Numbers.{sample_number, size_number};
 
-// 0, or 5.
-pub fn judge_sample(sample: u8) -> u8
-    ensures { result ≡ sample_number sample }
+use morph::Refusal;
+
+// Refused 5, or nothing is wrong.
+pub fn judge_sample(sample: u8) -> Result<(), Refusal>
+    ensures { said result ≡ sample_number sample }
 {
     if 1 < sample {
-        return 5;
+        return Err(Refusal::SampleKind);
     }
-    0
+    Ok(())
 }
 
-// 0, or 4.
-pub fn judge_size(width: usize, rows: usize) -> u8
-    ensures { result ≡ size_number width rows }
+// Refused 4.
+pub fn judge_size(width: usize, rows: usize) -> Result<(), Refusal>
+    ensures { said result ≡ size_number width rows }
 {
-    if width == 0 {
-        return 4;
+    if width == 0 || 4096 < width || rows == 0 || 65535 < rows {
+        return Err(Refusal::Size);
     }
-    if 4096 < width {
-        return 4;
-    }
-    if rows == 0 {
-        return 4;
-    }
-    if 65535 < rows {
-        return 4;
-    }
-    0
+    Ok(())
 }

@@ -4,17 +4,18 @@
 ghost use Rattle.std.specs.Prelude.{◌≡◌, [], ◌∷◌, ◌+◌, ◌≤◌, ◌<◌};
 ghost use Rattle.morph.specs.Order.{reach_back, ahead_of};
 ghost use Rattle.morph.specs.Numbers.{extent_number};
+ghost use Rattle.morph.specs.Refusals.{said};
 ghost use Rattle.plan_record.specs.Plan.{plan_of, used, size_of, below_of, cells_needed, records_needed, plan_ahead, count_number, record_number, needs_of_none, needs_of};
-ghost use Rattle.plan_record.specs.Inner.{added};
+ghost use Rattle.plan_record.specs.Inner.{added, reading_as, need_as};
 
-use morph::{Kind, wide};
+use morph::{Kind, Refusal};
 
-mod image; // image.rt: the numbers of an image's head
+mod image; // image.rt: the rules of an image's head
 
 pub use image::{judge_sample, judge_size};
 
 // A rectangle of four extents, and what is done with it.
-#[derive(Clone, Copy)]
+#[derive(Clone, Copy, Debug, PartialEq, Eq)]
 pub struct Stage {
     pub kind: Kind,
     pub left: u8,
@@ -24,14 +25,16 @@ pub struct Stage {
 }
 
 // The first `count` places are the plan's stages, and the others hold zeros and the kind erosion.
-#[derive(Clone, Copy)]
+// That the count is at most 16 is no ghost field: `judge` answers 1 on a record that breaks it (document 01; `record_number`).
+#[derive(Clone, Copy, Debug, PartialEq, Eq)]
 pub struct Plan {
     pub count: usize,
     pub stages: [Stage; 16],
 }
 
-// What reading or naming a plan gives: 0 and the plan, or a refusal's number and all zeros.
-#[derive(Clone, Copy)]
+// What reading or naming a plan gives: 0 and the plan, or a refusal's number and all zeros. It stays a record, and no Result:
+// document 01 says that "a refused .. named plan or reading hands back all zeros, kind erosion" (`reading_of`).
+#[derive(Clone, Copy, Debug, PartialEq, Eq)]
 pub struct Reading {
     pub number: u8,
     pub plan: Plan,
@@ -71,24 +74,24 @@ pub fn trimmed(plan: Plan) -> Plan
     requires { plan.count ≤ 16 }
     ensures { result ≡ plan_of (used plan) }
 {
-    let count = plan.count;
     let mut kept = empty();
-    let mut i = 0;
-    while i < count {
-        let stage = plan.stages[i];
-        kept = add(kept, stage);
-        i += 1;
+    for stage in &plan.stages[..plan.count] {
+        kept = add(kept, *stage);
     }
     kept
 }
 
-// The answer of a refused call.
-pub fn refused(number: u8) -> Reading
-    ensures { result ≡ record { number = number; plan = plan_of [] } }
-{
-    Reading {
-        number: number,
-        plan: empty(),
+impl From<Result<Plan, Refusal>> for Reading {
+    ghost from_gives = { λ read r. r ≡ reading_as read };
+
+    fn from(read: Result<Plan, Refusal>) -> Reading {
+        match read {
+            Ok(plan) => Reading { number: 0, plan },
+            Err(refusal) => Reading {
+                number: refusal.number(),
+                plan: empty(),
+            },
+        }
     }
 }
 
@@ -98,7 +101,7 @@ pub fn refused(number: u8) -> Reading
 pub fn size_of(stage: Stage) -> usize
     ensures { (result ≡ size_of stage) × (result ≤ 511) }
 {
-    wide(stage.up) + wide(stage.down) + 1
+    usize::from(stage.up) + usize::from(stage.down) + 1
 }
 
 // How far a window of two extents reaches back, and how far ahead.
@@ -106,8 +109,8 @@ fn back_of(kind: Kind, a: u8, b: u8) -> usize
     ensures { (result ≡ reach_back kind a b) × (result < 256) }
 {
     match kind {
-        Kind::Erosion => wide(a),
-        Kind::Dilation => wide(b),
+        Kind::Erosion => usize::from(a),
+        Kind::Dilation => usize::from(b),
     }
 }
 
@@ -115,8 +118,8 @@ fn ahead_of(kind: Kind, a: u8, b: u8) -> usize
     ensures { (result ≡ ahead_of kind a b) × (result < 256) }
 {
     match kind {
-        Kind::Erosion => wide(b),
-        Kind::Dilation => wide(a),
+        Kind::Erosion => usize::from(b),
+        Kind::Dilation => usize::from(a),
     }
 }
 
@@ -124,32 +127,28 @@ fn ahead_of(kind: Kind, a: u8, b: u8) -> usize
 pub fn back_across(stage: Stage) -> usize
     ensures { (result ≡ reach_back stage.kind stage.left stage.right) × (result < 256) }
 {
-    let kind = stage.kind;
-    back_of(kind, stage.left, stage.right)
+    back_of(stage.kind, stage.left, stage.right)
 }
 
 // F across.
 pub fn ahead_across(stage: Stage) -> usize
     ensures { (result ≡ ahead_of stage.kind stage.left stage.right) × (result < 256) }
 {
-    let kind = stage.kind;
-    ahead_of(kind, stage.left, stage.right)
+    ahead_of(stage.kind, stage.left, stage.right)
 }
 
 // B down.
 pub fn above(stage: Stage) -> usize
     ensures { (result ≡ reach_back stage.kind stage.up stage.down) × (result < 256) }
 {
-    let kind = stage.kind;
-    back_of(kind, stage.up, stage.down)
+    back_of(stage.kind, stage.up, stage.down)
 }
 
 // F down.
 pub fn below(stage: Stage) -> usize
     ensures { (result ≡ below_of stage) × (result < 256) }
 {
-    let kind = stage.kind;
-    ahead_of(kind, stage.up, stage.down)
+    ahead_of(stage.kind, stage.up, stage.down)
 }
 
 // The queue cells that the plan's stages need over a picture of that width.
@@ -157,13 +156,9 @@ pub fn cells(plan: Plan, width: usize) -> usize
     requires { (plan.count ≤ 16) × (width ≤ 4096) }
     ensures { result ≡ cells_needed plan width }
 {
-    let count = plan.count;
     let mut needed = 0;
-    let mut i = 0;
-    while i < count {
-        let stage = plan.stages[i];
-        needed += width * size_of(stage);
-        i += 1;
+    for stage in &plan.stages[..plan.count] {
+        needed += width * size_of(*stage);
     }
     needed
 }
@@ -181,76 +176,51 @@ pub fn look_ahead(plan: Plan) -> usize
     requires { plan.count ≤ 16 }
     ensures { result ≡ plan_ahead plan }
 {
-    let count = plan.count;
     let mut ahead = 0;
-    let mut i = 0;
-    while i < count {
-        let stage = plan.stages[i];
-        ahead += below(stage);
-        i += 1;
+    for stage in &plan.stages[..plan.count] {
+        ahead += below(*stage);
     }
     ahead
 }
 
 // ---- judging
 
-// 0, or 1.
-pub fn judge_count(count: usize) -> u8
-    ensures { result ≡ count_number count }
+// Refused 1, or nothing is wrong.
+pub fn judge_count(count: usize) -> Result<(), Refusal>
+    ensures { said result ≡ count_number count }
 {
-    if count == 0 {
-        return 1;
+    if count == 0 || 16 < count {
+        return Err(Refusal::StageCount);
     }
-    if 16 < count {
-        return 1;
-    }
-    0
+    Ok(())
 }
 
-// 0, or 3.
-pub fn judge_extents(left: u8, right: u8, up: u8, down: u8) -> u8
-    ensures { result ≡ extent_number (left ∷ right ∷ up ∷ down ∷ []) }
+// Refused 3.
+pub fn judge_extents(left: u8, right: u8, up: u8, down: u8) -> Result<(), Refusal>
+    ensures { said result ≡ extent_number (left ∷ right ∷ up ∷ down ∷ []) }
 {
-    if 31 < left {
-        return 3;
+    if 31 < left || 31 < right || 31 < up || 31 < down {
+        return Err(Refusal::Extent);
     }
-    if 31 < right {
-        return 3;
-    }
-    if 31 < up {
-        return 3;
-    }
-    if 31 < down {
-        return 3;
-    }
-    0
+    Ok(())
 }
 
-// A plan record's number: 1, or stage by stage 3; else 0.
-pub fn judge(plan: Plan) -> u8
-    ensures { result ≡ record_number plan }
+// A plan record is refused 1, or stage by stage 3.
+pub fn judge(plan: Plan) -> Result<(), Refusal>
+    ensures { said result ≡ record_number plan }
 {
-    let count = plan.count;
-    let number = judge_count(count);
-    if number != 0 {
-        return number;
+    judge_count(plan.count)?;
+    for stage in &plan.stages[..plan.count] {
+        judge_extents(stage.left, stage.right, stage.up, stage.down)?;
     }
-    let mut i = 0;
-    while i < count {
-        let stage = plan.stages[i];
-        let number = judge_extents(stage.left, stage.right, stage.up, stage.down);
-        if number != 0 {
-            return number;
-        }
-        i += 1;
-    }
-    0
+    Ok(())
 }
 
 // ---- what to lend
 
 // What a plan needs over a picture of a width: 0, the cells, the records and the look-ahead, or a refusal's number and zeros.
-#[derive(Clone, Copy)]
+// It stays a record: the zeros that go with a refusal are promised (`needs_of_none`).
+#[derive(Clone, Copy, Debug, PartialEq, Eq)]
 pub struct Need {
     pub number: u8,
     pub cells: usize,
@@ -258,33 +228,44 @@ pub struct Need {
     pub ahead: usize,
 }
 
-fn no_needs(refusal: u8) -> Need
-    ensures { result ≡ needs_of_none refusal }
+fn no_needs(number: u8) -> Need
+    ensures { result ≡ needs_of_none number }
 {
     Need {
-        number: refusal,
+        number,
         cells: 0,
         records: 0,
         ahead: 0,
     }
 }
 
-// Refused 1, or stage by stage 3; then 4, which is the width's.
-pub fn needs(plan: Plan, width: usize) -> Need
-    ensures { result ≡ needs_of plan width }
+impl From<Result<Need, Refusal>> for Need {
+    ghost from_gives = { λ needed r. r ≡ need_as needed };
+
+    fn from(needed: Result<Need, Refusal>) -> Need {
+        match needed {
+            Ok(need) => need,
+            Err(refusal) => no_needs(refusal.number()),
+        }
+    }
+}
+
+fn needed(plan: Plan, width: usize) -> Result<Need, Refusal>
+    ensures { need_as result ≡ needs_of plan width }
 {
-    let number = judge(plan);
-    if number != 0 {
-        return no_needs(number);
-    }
-    let number = judge_size(width, 1);
-    if number != 0 {
-        return no_needs(number);
-    }
-    Need {
+    judge(plan)?;
+    judge_size(width, 1)?;
+    Ok(Need {
         number: 0,
         cells: cells(plan, width),
         records: records(plan, width),
         ahead: look_ahead(plan),
-    }
+    })
+}
+
+// Refused 1, or stage by stage 3; then 4, which is the width's.
+pub fn needs(plan: Plan, width: usize) -> Need
+    ensures { result ≡ needs_of plan width }
+{
+    Need::from(needed(plan, width))
 }

@@ -3,20 +3,24 @@
 // so a step costs the same whatever the window.
 #![tactic(auto)]
 
-ghost use Rattle.std.specs.Prelude.{◌≡◌, ◌+◌, ◌-◌, ◌%◌, ◌≤◌, ◌<◌, min, length, get_or};
-ghost use Rattle.morph.specs.Ring.{wrap};
+ghost use Rattle.std.specs.Prelude.{◌≡◌, ℕ, ◌+◌, ◌-◌, ◌%◌, ◌≤◌, ◌<◌, List, min, length, get_or, set};
+ghost use Rattle.morph.specs.Inner.{popped};
+ghost use Rattle.morph.specs.Ring.{wrap, entries};
 ghost use Rattle.morph.specs.Cell.{age_of, row_of};
-ghost use Rattle.queue.specs.Inner.{goes_of, cell_goes_of};
+ghost use Rattle.queue.specs.Inner.{goes_of, cell_goes_of, Roomed, CellPushed};
+
+use morph::Kind;
+use sample::Sample;
 
 // How many entries a new value leaves unpassed, and the place behind them.
-#[derive(Clone, Copy)]
+#[derive(Clone, Copy, Debug, PartialEq, Eq)]
 pub struct Kept {
     pub count: usize,
     pub behind: usize,
 }
 
 // Where a new entry goes, what stays before it, and the comparisons made.
-#[derive(Clone, Copy)]
+#[derive(Clone, Copy, Debug, PartialEq, Eq)]
 pub struct Room {
     pub start: usize,
     pub count: usize,
@@ -25,7 +29,7 @@ pub struct Room {
 }
 
 // Where a queue starts and how many entries it has after a step, and the comparisons made.
-#[derive(Clone, Copy)]
+#[derive(Clone, Copy, Debug, PartialEq, Eq)]
 pub struct Ends {
     pub start: usize,
     pub count: usize,
@@ -134,4 +138,188 @@ pub fn cell_goes(positions: &[u8], start: usize, count: usize, window: usize, t:
         return 1;
     }
     0
+}
+
+// ---- queues, of any kind of sample
+
+// A queued value with its position.
+#[derive(Clone, Copy, Debug, PartialEq, Eq)]
+pub struct Entry<S> {
+    pub value: S,
+    pub position: u16,
+}
+
+// The entries from the tail that v equals or passes go; `behind` is the place behind the last. The place is carried along, and not reckoned from the start
+// for every entry: a step's time is mostly the wait for the value to compare with.
+pub fn pop<S: Sample>(
+    kind: Kind,
+    values: &[S],
+    start: usize,
+    count: usize,
+    behind: usize,
+    v: S,
+) -> Kept
+    requires { (start < length values.now) × (count ≤ length values.now) × (length values.now ≤ 63) × (behind ≡ wrap (length values.now) (start + count)) }
+    ensures { ((ps : List ℕ) → count - result.count ≡ popped (S.samples.passes kind v) (entries S.samples.order.blank (length values.now) start count values.now ps)) × (result.count ≤ count) × (result.behind ≡ wrap (length values.now) (start + result.count)) × (result.behind < length values.now) }
+{
+    let places = values.len();
+    let mut left = count;
+    let mut at = behind;
+    while 0 < left {
+        let i = previous(at, places);
+        if !S::passes(kind, v, values[i]) {
+            return Kept {
+                count: left,
+                behind: at,
+            };
+        }
+        at = i;
+        left -= 1;
+    }
+    Kept {
+        count: left,
+        behind: at,
+    }
+}
+
+// Room for the value v at step t; `behind` is the place behind the last.
+fn make_room<'a, S: Sample>(
+    kind: Kind,
+    window: usize,
+    values: &'a [S],
+    positions: &'a [u16],
+    start: usize,
+    count: usize,
+    behind: usize,
+    v: S,
+    t: u16,
+) -> Room
+    requires { (start < length values.now) × (count ≤ window) × (0 < window) × (window ≤ length values.now) × (length values.now ≤ 63) × (length positions.now ≡ length values.now) × (behind ≡ wrap (length values.now) (start + count)) }
+    ensures { Roomed S.samples kind window t v values.now positions.now start count result }
+{
+    let places = values.len();
+    let kept = pop(kind, values, start, count, behind, v);
+    let left = kept.count;
+    let comparisons = count - left + any(left);
+    let gone = goes(positions, start, left, window, wide(t));
+    if gone == 0 {
+        return Room {
+            start: start,
+            count: left,
+            at: kept.behind,
+            comparisons: comparisons,
+        };
+    }
+    Room {
+        start: next(start, places),
+        count: left - 1,
+        at: kept.behind,
+        comparisons: comparisons,
+    }
+}
+
+// The queue reads an entry, at the step of its position, and stores it where there is room. The window may have fewer places than there are;
+// `behind` is the place behind the last.
+pub fn push_within<S: Sample>(
+    kind: Kind,
+    window: usize,
+    values: &mut [S],
+    positions: &mut [u16],
+    start: usize,
+    count: usize,
+    behind: usize,
+    e: Entry<S>,
+) -> Room
+    requires { (start < length values.old) × (count ≤ window) × (0 < window) × (window ≤ length values.old) × (length values.old ≤ 63) × (length positions.old ≡ length values.old) × (behind ≡ wrap (length values.old) (start + count)) }
+    ensures { Roomed S.samples kind window e.position e.value values.old positions.old start count result × (values.new ≡ set values.old result.at e.value) × (positions.new ≡ set positions.old result.at e.position) }
+{
+    let r = make_room(
+        kind,
+        window,
+        &values[..],
+        &positions[..],
+        start,
+        count,
+        behind,
+        e.value,
+        e.position,
+    );
+    let at = r.at;
+    values[at] = e.value;
+    positions[at] = e.position;
+    r
+}
+
+// The entry in a cell.
+pub fn cell<'a, S: Sample>(values: &'a [S], positions: &'a [u16], at: usize) -> Entry<S>
+    requires { (at < length values.now) × (at < length positions.now) }
+    ensures { (result.value ≡ get_or values.now at S.samples.order.blank) × (result.position ≡ get_or positions.now at 0) }
+{
+    Entry {
+        value: values[at],
+        position: positions[at],
+    }
+}
+
+// The oldest entry: it stands in the cell of the queue's start.
+pub fn front<'a, S: Sample>(values: &'a [S], positions: &'a [u16], start: usize) -> Entry<S>
+    requires { (start < length values.now) × (start < length positions.now) }
+    ensures { (result.value ≡ get_or values.now start S.samples.order.blank) × (result.position ≡ get_or positions.now start 0) }
+{
+    cell(values, positions, start)
+}
+
+// ---- queues in lent cells, which keep the remainders of row numbers
+
+// A queued value with the number of its row.
+#[derive(Clone, Copy, Debug, PartialEq, Eq)]
+pub struct RowEntry<S> {
+    pub value: S,
+    pub position: usize,
+}
+
+// The queue in lent cells reads an entry, at the step of its row; the window has as many places as there are cells.
+pub fn push<S: Sample>(
+    kind: Kind,
+    values: &mut [S],
+    positions: &mut [u8],
+    start: usize,
+    count: usize,
+    e: RowEntry<S>,
+) -> Ends
+    requires { (start < length values.old) × (count ≤ length values.old) × (length values.old ≤ 63) × (length positions.old ≡ length values.old) × (e.position ≤ 4294967800) }
+    ensures { CellPushed S.samples kind e.position e.value values.old positions.old start count values.new positions.new result }
+{
+    let window = values.len();
+    let behind = slot(start, count, window);
+    let kept = pop(kind, &values[..], start, count, behind, e.value);
+    let left = kept.count;
+    let at = kept.behind;
+    let comparisons = count - left + any(left);
+    let gone = cell_goes(&positions[..], start, left, window, e.position);
+    values[at] = e.value;
+    positions[at] = remainder(e.position);
+    if gone == 0 {
+        return Ends {
+            start: start,
+            count: left + 1,
+            comparisons: comparisons,
+        };
+    }
+    Ends {
+        start: next(start, window),
+        count: left,
+        comparisons: comparisons,
+    }
+}
+
+// The entry in a lent cell, s being the steps done.
+pub fn lent<'a, S: Sample>(values: &'a [S], positions: &'a [u8], at: usize, s: usize) -> RowEntry<S>
+    requires { (at < length values.now) × (at < length positions.now) × (s ≤ 4294967800) }
+    ensures { (result.value ≡ get_or values.now at S.samples.order.blank) × (result.position ≡ row_of s (get_or positions.now at 0)) }
+{
+    RowEntry {
+        value: values[at],
+        position: row_of(s, positions[at]),
+    }
 }

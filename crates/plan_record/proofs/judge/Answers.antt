@@ -1,34 +1,47 @@
 -- What is left to judge decides.
-use mathlib.Core.Path.{refl, ◌∙◌, sym}
+use mathlib.Core.Path.{◌≡◌, refl, sym, ap, ◌∙◌}
+use Prim.Native.Nat.{◌<◌}
+use lib.ListN.{length, get_or, take}
+use lib.Seq.{get_or-take, length-take-le}
 use Rattle.morph.proofs.Numbers.{judging_next, judging_found, judging_last}
-use Rattle.plan_record.proofs.Laws.{count_refused, count_accepted}
+use Rattle.plan_record.proofs.Exits.{said_up, first_up, refused_some}
+use Rattle.plan_record.proofs.Laws.{count_accepted}
 use Rattle.plan_record.proofs.Named.{counted}
-use Rattle.plan_record.specs.Plan.{record_stages_number, record_number}
+use Rattle.plan_record.specs.Plan.{unused, record_stage_number, record_stages_number, record_number}
 use native.Mathlib.Omega.{arith}
 use Rattle.plan_record.proofs.judge.Goals as goal
 
-pub returns-then-number-ne0 : goal.returns-then-number-ne0
+pub returns-in_err-judge_count : goal.returns-in_err-judge_count
 unfolding record_number
-returns-then-number-ne0 c =
-    let a = c.args in
-    count_refused a.plan.count (record_stages_number a.plan) c.judge_count-number.ensures c.if-number-ne0.true
+returns-in_err-judge_count c = first_up c.in_err-judge_count.field-0.0 _ _ _ c.from_residual.ensures.1 c.in_err-judge_count.ensures
 
-pub loop-i-init : goal.loop-i-init
-loop-i-init c = (omega arith, (counted c.args.plan.count (sym c.judge_count-number.ensures ∙ c.if-number-ne0.false)).1, refl)
-
-pub returns-then-number-ne0-2 : goal.returns-then-number-ne0-2
+pub returns-in_err-judge_extents : goal.returns-in_err-judge_extents
 unfolding record_number record_stages_number
-returns-then-number-ne0-2 c =
-    let a = c.args in
-    count_accepted a.plan.count (record_stages_number a.plan) c.judge_count-number.ensures c.if-number-ne0.false
-    (c.judge_extents-number.ensures ∙ judging_found _ _ _ c.loop-i.invariant.2 c.loop-i-test.true (λ z. c.if-number-ne0-2.true (c.judge_extents-number.ensures ∙ z)))
+returns-in_err-judge_extents c =
+    let p = c.args.plan in
+    let i = c.loop-stage.stage-index in
+    let n = counted p.count (sym c.in_ok-judge_count.ensures) in
+    let l : length (take p.count p.stages) ≡ p.count = length-take-le p.count p.stages (omega arith) in
+    let h : i < p.count = omega arith in
+    let e = c.in_err-judge_extents.ensures ∙ ap record_stage_number (get_or-take p.count p.stages i unused h) in
+    count_accepted p.count (record_stages_number p) c.in_ok-judge_count.ensures refl
+    (said_up c.in_err-judge_extents.field-0.0 _ c.from_residual-in_err-judge_extents.ensures.1 (e ∙ judging_found p.count (λ k. record_stage_number (get_or p.stages k unused)) i c.loop-stage.invariant h (λ z. refused_some c.in_err-judge_extents.field-0.0 (e ∙ z))))
 
-pub loop-i-preserved : goal.loop-i-preserved
-loop-i-preserved c = (omega arith, c.loop-i.invariant.1, judging_next _ _ _ c.loop-i.invariant.2 c.loop-i-test.true (sym c.judge_extents-number.ensures ∙ c.if-number-ne0-2.false))
+pub loop-stage-preserved : goal.loop-stage-preserved
+loop-stage-preserved c =
+    let p = c.args.plan in
+    let i = c.loop-stage.stage-index in
+    let n = counted p.count (sym c.in_ok-judge_count.ensures) in
+    let l : length (take p.count p.stages) ≡ p.count = length-take-le p.count p.stages (omega arith) in
+    let h : i < p.count = omega arith in
+    judging_next p.count (λ k. record_stage_number (get_or p.stages k unused)) i c.loop-stage.invariant h
+    (sym (c.in_ok-judge_extents.ensures ∙ ap record_stage_number (get_or-take p.count p.stages i unused h)))
 
 pub returns : goal.returns
 unfolding record_number record_stages_number
 returns c =
-    let a = c.args in
-    count_accepted a.plan.count (record_stages_number a.plan) c.judge_count-number.ensures c.if-number-ne0.false
-    (judging_last _ _ _ c.loop-i.invariant.2 c.loop-i-test.false)
+    let p = c.args.plan in
+    let n = counted p.count (sym c.in_ok-judge_count.ensures) in
+    let l : length (take p.count p.stages) ≡ p.count = length-take-le p.count p.stages (omega arith) in
+    count_accepted p.count (record_stages_number p) c.in_ok-judge_count.ensures refl
+    (judging_last p.count (λ k. record_stage_number (get_or p.stages k unused)) c.loop-stage.stage-index c.loop-stage.invariant (omega arith))

@@ -1,23 +1,11 @@
 -- The sum so far is that of the stages so far.
-use mathlib.Core.Path.{◌≡◌, refl, ◌∙◌, ap}
-use Prim.Native.Nat.{ℕ}
-use lib.ListN.{length, take}
-use Rattle.plan_record.specs.Plan.{total, below_of}
+use lib.ListN.{take}
+use Rattle.plan_record.specs.Plan.{unused, below_of}
 use Rattle.plan_record.proofs.Laws.{sum_more}
 use native.Mathlib.Omega.{arith}
 use Rattle.plan_record.proofs.look_ahead.Goals as goal
 
-pub loop-i-init : goal.loop-i-init
-loop-i-init c = (omega arith, refl, omega arith)
-
-pub loop-i-preserved : goal.loop-i-preserved
-loop-i-preserved c =
-    let start = c in
-    let l : length start.args.plan.stages ≡ 16 = start.well_formed.0.1.1.1.0.1.0.1 in
-    (omega arith, sum_more below_of start.args.plan.stages c.loop-i.i _ (omega arith) c.loop-i.invariant.1 c.below-ahead.ensures.0, omega arith)
-
-pub returns : goal.returns
-returns c =
+pub loop-stage-preserved : goal.loop-stage-preserved
+loop-stage-preserved c =
     let a = c.args in
-    let e : c.loop-i.i ≡ a.plan.count = omega arith in
-    c.loop-i.invariant.1 ∙ ap (λ (n : ℕ). total below_of (take n a.plan.stages)) e
+    (sum_more below_of (take a.plan.count a.plan.stages) c.loop-stage.stage-index unused c.loop-stage-test.true c.loop-stage.invariant.0 c.below-ahead.ensures.0, omega arith)
