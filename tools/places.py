@@ -12,8 +12,8 @@ import os
 import re
 import sys
 
-Fn = collections.namedtuple('Fn', 'crate file line name head params result requires ensures body')
-HEAD = re.compile(r'^( *)(?:pub )?(?:unsafe )?(?:extern "C" )?fn (\w+)((?:(?!^ *\}).)*?)(?:^\1| )\{\n(.*?)^\1\}$', re.M | re.S)
+Fn = collections.namedtuple('Fn', 'crate file line name method head params result requires ensures body')
+HEAD = re.compile(r'^( *)(?:pub )?(?:unsafe )?(?:extern "C" )?fn (\w+)((?:(?!^ *\}|;\n).)*?)(?:^\1| )\{\n(.*?)^\1\}$', re.M | re.S)
 TYPE = re.compile(r'^((?:#\[[^\n]*\]\n)*)(?:pub )?(struct|enum) (\w+)[^{;]*\{\n(.*?)^\}', re.M | re.S)
 
 
@@ -51,7 +51,7 @@ def functions(top):
         for m in HEAD.finditer(text):
             name, head, body = m[2], m[3], m[4]
             result = re.search(r'\) -> ([^{]*?)\s*(?:requires|ensures|$)', head, re.S)
-            out.append(Fn(shown.split('/')[0], shown, text.count('\n', 0, m.start()) + 1, name, head, params(head), result[1].strip() if result else '', clauses(head, 'requires'), clauses(head, 'ensures'), plain(body)))
+            out.append(Fn(shown.split('/')[0], shown, text.count('\n', 0, m.start()) + 1, name, m[1] != '', head, params(head), result[1].strip() if result else '', clauses(head, 'requires'), clauses(head, 'ensures'), plain(body)))
     return out
 
 
@@ -99,6 +99,8 @@ def refusals(fns, shapes):
 
 
 def twins(fns, shapes):
+    fns = [f for f in fns if not f.method]
+
     def told(groups, kind):
         for each in groups.values():
             for one in each[1:]:
@@ -139,10 +141,10 @@ def conversions(fns, shapes):
         body = f.body.strip()
         if re.fullmatch(r'\(?[\w% .]+\)? as \w+', body):
             yield 4, 'casting', f, f.name
-        if len(f.params) == 1 and re.fullmatch(r'match \w+ \{(\s*[\w:]+(\(\w*\))? => [\w:]+,)+\s*\}|if \w+ == \d+ \{\s*return [\w:]+;\s*\}\s*[\w:]+', body):
+        if len(f.params) == 1 and re.fullmatch(r'match \w+ \{(\s*[\w:]+(\(\w*\))? => [\w:]+,)+\s*\}|if \w+ == \d+ \{\s*(return )?[\w:]+;?\s*\}( else \{)?\s*[\w:]+(\s*\})?', body):
             yield 4, 'tables', f, f.name
         for first, inside in loops(body):
-            if re.fullmatch(r'\s*(\w+\[[\w +]+\] = (\w+\[[\w +]+\]|0|0\.0);|\w+ \+= 1;|\s)+', inside):
+            if '[' in inside and re.fullmatch(r'\s*(\w+\[[\w +]+\] = (\w+\[[\w +]+\]|0|0\.0);|\w+ \+= 1;|\s)+', inside):
                 yield 4, 'fills', f, first
         if len(re.findall(r'^ *(\w+): \w+\.\1,', body, re.M)) >= 3 or len(re.findall(r'let (?:mut )?(\w+) = \w+\.\1;', body)) >= 3:
             yield 4, 'fields', f, f.name

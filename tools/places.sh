@@ -20,6 +20,7 @@ xargs awk '!/^ *(\/\/|ghost |requires|ensures|×|#!)/ { print FILENAME ":" FNR "
 # The same of each function's head, in one line: its signature and its clauses.
 xargs awk '
     /^ *(pub )?(unsafe )?(extern "C" )?fn / { at = FILENAME ":" FNR; head = ""; on = 1 }
+    on && /;$/ { on = 0 }
     on { line = $0; sub(/^ +/, "", line); head = head " " line }
     on && /\{$/ && !/^ *(requires|ensures|×)/ { on = 0; print at ":" head }' < "$work/files" > "$work/heads"
 # The same of each struct and enum, with the attributes before it.

@@ -15,7 +15,7 @@ use Rattle.morph.specs.Lists.{tabulate, sum_to}
 use Rattle.morph.specs.Line.{Entry}
 use Rattle.morph.specs.Inner.{cells_roomed, step_cost}
 use Rattle.morph.proofs.Lists.{split, length_tabulate, get_d_tabulate}
-use Rattle.sample.specs.Samples.{Samples, greys, rates}
+use Rattle.sample.specs.Samples.{Samples}
 use Rattle.sample.proofs.Rows.{Filling, fill_start, fill_next, fill_end}
 use Rattle.columns.specs.Inner.{Lent, only, Moved, RecordsMoved, reads, RowRead, front_at}
 use Rattle.memory.specs.Memory.{column_at}
@@ -104,44 +104,30 @@ module _ {A : Type 0} (K : Samples A) (kind : Kind) (P t : ℕ) (row vs : List A
 
 -- ---- the columns age
 
-module _ (P t : ℕ) (ps ss ls : List ℕ) where
-  -- the columns before x, whose cells begin at lo, have aged, whatever the values are and of either kind
+module _ {A : Type 0} (K : Samples A) (P t : ℕ) (ps ss ls : List ℕ) where
+  -- the columns before x, whose cells begin at lo, have aged, whatever the values are
   pub record Aging (ss' ls' : List ℕ) (lo x : ℕ) : Type 0 where
     pub within : x ≤ length ss
     pub at : lo ≡ x * P
     pub lent : Lent P (length ss) ps ss' ls'
-    pub grey : RecordsMoved greys P (length ss) (until x (λ _. cells_roomed P t)) ps ss ls ss' ls'
-    pub rate : RecordsMoved rates P (length ss) (until x (λ _. cells_roomed P t)) ps ss ls ss' ls'
+    pub moved : RecordsMoved K P (length ss) (until x (λ _. cells_roomed P t)) ps ss ls ss' ls'
 
   pub aging_first : Lent P (length ss) ps ss ls → Aging ss ls 0 0
-  aging_first l = record {
-    within = omega arith;
-    at = sym (zero-mul P);
-    lent = l;
-    grey = λ vs. moved_first greys P (length ss) (λ _. cells_roomed P t) vs ps ss ls l;
-    rate = λ vs. moved_first rates P (length ss) (λ _. cells_roomed P t) vs ps ss ls l;
-  }
+  aging_first l = record { within = omega arith; at = sym (zero-mul P); lent = l; moved = λ vs. moved_first K P (length ss) (λ _. cells_roomed P t) vs ps ss ls l }
 
   module _ (ss' ls' : List ℕ) (lo x : ℕ) (g : Aging ss' ls' lo x) where
-    pub aging_next : (ss'' ls'' : List ℕ) → x < length ss
-        → RecordsMoved greys P (length ss') (only x (cells_roomed P t)) ps ss' ls' ss'' ls'' × RecordsMoved rates P (length ss') (only x (cells_roomed P t)) ps ss' ls' ss'' ls''
-        → Aging ss'' ls'' (lo + P) (x + 1)
+    pub aging_next : (ss'' ls'' : List ℕ) → x < length ss → RecordsMoved K P (length ss') (only x (cells_roomed P t)) ps ss' ls' ss'' ls'' → Aging ss'' ls'' (lo + P) (x + 1)
     aging_next ss'' ls'' h m =
-        let (a, b) = rw g.lent.starts_long at m in
+        let a = rw g.lent.starts_long at m in
         record {
           within = omega arith;
           at = next_cells P x lo g.at;
           lent = (a []).lent;
-          grey = λ vs. moved_next greys P (length ss) (λ _. cells_roomed P t) vs ps ss ls x vs ps ss' ls' (g.grey vs) vs ps ss'' ls'' (a vs);
-          rate = λ vs. moved_next rates P (length ss) (λ _. cells_roomed P t) vs ps ss ls x vs ps ss' ls' (g.rate vs) vs ps ss'' ls'' (b vs);
+          moved = λ vs. moved_next K P (length ss) (λ _. cells_roomed P t) vs ps ss ls x vs ps ss' ls' (g.moved vs) vs ps ss'' ls'' (a vs);
         }
 
-    pub aging_last : length ss ≤ x
-        → RecordsMoved greys P (length ss) (λ _. cells_roomed P t) ps ss ls ss' ls' × RecordsMoved rates P (length ss) (λ _. cells_roomed P t) ps ss ls ss' ls'
-    aging_last h = (
-      λ vs. moved_last greys P (length ss) (λ _. cells_roomed P t) vs ps ss ls x vs ps ss' ls' (g.grey vs) h,
-      λ vs. moved_last rates P (length ss) (λ _. cells_roomed P t) vs ps ss ls x vs ps ss' ls' (g.rate vs) h,
-    )
+    pub aging_last : length ss ≤ x → RecordsMoved K P (length ss) (λ _. cells_roomed P t) ps ss ls ss' ls'
+    aging_last h vs = moved_last K P (length ss) (λ _. cells_roomed P t) vs ps ss ls x vs ps ss' ls' (g.moved vs) h
 
 -- ---- the fronts go into a row
 

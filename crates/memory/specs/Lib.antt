@@ -1,2 +1,3 @@
 pub mod Memory
 pub mod Inner
+pub mod Lent

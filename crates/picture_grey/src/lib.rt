@@ -175,7 +175,7 @@ fn show<'a>(
     if wide(lengths[x]) <= k {
         return lacks(11);
     }
-    finds(columns_grey::entry(places, values, positions, starts, x, k, s))
+    finds(columns::entry(places, values, positions, starts, x, k, s))
 }
 
 // The entry at a place of the queue of a stage's column: places count from the oldest.

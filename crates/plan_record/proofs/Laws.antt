@@ -21,7 +21,7 @@ use Rattle.plan_record.specs.declared.Plan.{Plan}
 use Rattle.plan_record.specs.declared.Reading.{Reading}
 use Rattle.plan_record.specs.declared.Need.{Need}
 use Rattle.plan_record.specs.Plan.{unused, plan_of, used, total, reading_of, cells_needed, records_needed, plan_ahead, count_number, needs_number, needs_of, stage_out_of, stage_number, stages_from, stages_number, plan_number, plan_read, stages_given, given_number, plan_given, sequence_stages, alternating_stages}
-use Rattle.plan_record.specs.Inner.{added, added_all, need_as}
+use Rattle.plan_record.specs.Inner.{added, added_all, reading_as, need_as}
 use Rattle.plan_record.proofs.Exits.{refused_some}
 
 -- ---- a stage more
@@ -55,10 +55,6 @@ module _ {r p : Plan} where
       let l : length (tabulate i f) ≡ i = length_tabulate i f in
       let more : tabulate (i + 1) f ≡ tabulate i f ++ (f i ∷ []) = rw (add-one i) (tabulate_snoc i f) in
       added_by e q g ∙ added_plan (tabulate i f) (f i) (omega arith) ∙ ap plan_of (sym more)
-
-  pub stages_more : {s : Stage} (i : ℕ) (bytes : List ℕ) → i < 16 → r ≡ added p s → p ≡ plan_of (stages_from i bytes) → s ≡ stage_out_of bytes (i * 5) → r ≡ plan_of (stages_from (i + 1) bytes)
-  unfolding stages_from
-  stages_more i bytes = table_more (λ k. stage_out_of bytes (k * 5)) i
 
   pub used_more : (ss : List Stage) (i : ℕ) (d : Stage) {s : Stage} → i < 16 → i < length ss → r ≡ added p s → p ≡ plan_of (take i ss) → s ≡ get_or ss i d → r ≡ plan_of (take (i + 1) ss)
   used_more ss i d h k e f g =
@@ -97,8 +93,13 @@ total_most f b (s ∷ ss) h = omega (arith, total_most f b ss h, h s)
 pub refused_answer : {r : Reading} {n m : ℕ} (plan : Plan) → r ≡ record { number = n; plan = plan_of [] } → n ≡ m → (n ≡ 0 → ⊥) → r ≡ reading_of m plan
 refused_answer {r} {n} {m} plan e q h = e ∙ (let f = ne_eqb n 0 h in cc)
 
-pub accepted_answer : {n m : ℕ} {p : Plan} (plan : Plan) → n ≡ m → n ≡ 0 → p ≡ plan → record { number = 0; plan = p } ≡ reading_of m plan
-accepted_answer {n} {m} {p} plan q e h = let f = eq-eqb n 0 e in cc
+-- the same of what is read or refused
+pub reading_refused : (plan : Plan) (refusal : Refusal) (r : Result Plan Refusal) {m : ℕ} → IsErrAnd r (λ e. e ≡ refusal) → refusal_number refusal ≡ m → reading_as r ≡ reading_of m plan
+reading_refused plan refusal (Ok _) h e = absurd h
+reading_refused plan refusal (Err _) h e = let f = ne_eqb (refusal_number refusal) 0 (refused_some refusal) in cc
+
+pub reading_accepted : {m : ℕ} {p : Plan} (plan : Plan) → m ≡ 0 → p ≡ plan → reading_as (Ok p) ≡ reading_of m plan
+reading_accepted {m} plan z e = let f = eq-eqb m 0 z in cc
 
 -- ---- the count's rule, and then m
 
@@ -110,39 +111,6 @@ count_accepted count m e z h = skip (count_number count) (m ∷ []) (sym e ∙ z
 
 pub count_zero : (count m : ℕ) → first_of (count_number count ∷ m ∷ []) ≡ 0 → (count_number count ≡ 0) × (m ≡ 0)
 count_zero count m e = let z = first_zero (count_number count) (m ∷ []) e in (z.0, sym (first_one m) ∙ z.1)
-
-module _ (count : ℕ) (bytes : List ℕ) {n q : ℕ} (w : n ≡ count) (e : q ≡ count_number n) where
-  pub read_count : {r : Reading} → r ≡ record { number = q; plan = plan_of [] } → (q ≡ 0 → ⊥) → r ≡ plan_read count bytes
-  unfolding plan_read plan_number
-  read_count f h = refused_answer (plan_of (stages_from count bytes)) f (count_refused count (stages_number count bytes) (e ∙ ap count_number w) h) h
-
-  pub read_stages_law : {r : Reading} {p : ℕ} → q ≡ 0 → r ≡ record { number = p; plan = plan_of [] } → p ≡ stages_number n bytes → (p ≡ 0 → ⊥) → r ≡ plan_read count bytes
-  unfolding plan_read plan_number
-  read_stages_law z f g h =
-      refused_answer (plan_of (stages_from count bytes)) f (count_accepted count (stages_number count bytes) (e ∙ ap count_number w) z (g ∙ ap (λ (n : ℕ). stages_number n bytes) w)) h
-
-  pub read_all : {p : ℕ} {plan : Plan} → q ≡ 0 → p ≡ stages_number n bytes → p ≡ 0 → plan ≡ plan_of (stages_from n bytes) → record { number = 0; plan = plan } ≡ plan_read count bytes
-  unfolding plan_read plan_number
-  read_all z g h f =
-      accepted_answer (plan_of (stages_from count bytes)) (count_accepted count (stages_number count bytes) (e ∙ ap count_number w) z (g ∙ ap (λ (n : ℕ). stages_number n bytes) w)) h
-      (f ∙ ap (λ (n : ℕ). plan_of (stages_from n bytes)) w)
-
--- the same of stages that stand apart
-module _ (stages : List (List ℕ)) {q : ℕ} (e : q ≡ count_number (length stages)) where
-  abbrev stage_numbers : ℕ
-  stage_numbers = first_of (tabulate (length stages) (λ i. stage_number (get_or stages i []) 0))
-
-  pub given_count : {r : Reading} → r ≡ record { number = q; plan = plan_of [] } → (q ≡ 0 → ⊥) → r ≡ plan_given stages
-  unfolding plan_given given_number
-  given_count f h = refused_answer (plan_of (stages_given stages)) f (count_refused (length stages) stage_numbers e h) h
-
-  pub given_stages : {r : Reading} {p : ℕ} → q ≡ 0 → r ≡ record { number = p; plan = plan_of [] } → p ≡ stage_numbers → (p ≡ 0 → ⊥) → r ≡ plan_given stages
-  unfolding plan_given given_number
-  given_stages z f g h = refused_answer (plan_of (stages_given stages)) f (count_accepted (length stages) stage_numbers e z g) h
-
-  pub given_all : {p : ℕ} {plan : Plan} → q ≡ 0 → p ≡ stage_numbers → p ≡ 0 → plan ≡ plan_of (stages_given stages) → record { number = 0; plan = plan } ≡ plan_given stages
-  unfolding plan_given given_number
-  given_all z g h f = accepted_answer (plan_of (stages_given stages)) (count_accepted (length stages) stage_numbers e z g) h f
 
 -- ---- a product of two bounded numbers
 

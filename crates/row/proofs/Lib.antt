@@ -1,2 +1,3 @@
 pub mod Row
 pub mod Origins
+pub mod Fits

@@ -1,5 +1,6 @@
 // Grey samples: bytes, in the order of their numbers.
 ghost use Rattle.std.specs.Prelude.{◌≡◌, length};
+ghost use Rattle.std.proofs.Common.{rules};
 ghost use Rattle.sample.specs.Samples.{greys};
 
 use crate::Sample;
@@ -39,4 +40,6 @@ impl Sample for u8 {
     fn take_in(row: &[u8], to: &mut [u8]) {
         to.copy_from_slice(row);
     }
+
+    ghost small = { Prim.search rules };
 }

@@ -2,7 +2,9 @@
 // `Sample` is what the layers above ask of a kind; whatever they do is written once over it. Its laws are those of the record `Samples`.
 #![tactic(auto)]
 
-ghost use Rattle.std.specs.Prelude.{◌≡◌, ℕ, map, length};
+ghost use Rattle.std.specs.Prelude.{◌≡◌, ℕ, ◌≤◌, map, length};
+ghost use Rattle.std.specs.Mem.{type_size};
+ghost use Rattle.std.specs.Align.{type_align};
 ghost use Rattle.sample.specs.Samples.{Samples, first_bad};
 
 use morph::Kind;
@@ -42,4 +44,7 @@ pub trait Sample: Copy {
     fn take_in(row: &[Self], to: &mut [Self])
         requires { length row.now ≡ length to.old }
         ensures { to.new ≡ map samples.taken row.now };
+
+    // A sample takes at most four bytes, so that an array of them fits in memory.
+    ghost small: { (type_size Self.row ≤ 4) × (type_align Self.row ≤ 4) };
 }

@@ -1,5 +1,6 @@
 // Rates: 32-bit floats, in the order of their own comparison.
 ghost use Rattle.std.specs.Prelude.{◌≡◌, ◌++◌, map, ◌+◌, ◌≤◌, length, take, drop};
+ghost use Rattle.std.proofs.Common.{rules};
 ghost use Rattle.std.specs.Float.{binary32};
 ghost use Rattle.std.specs.Float.Ieee.{of_bits, to_bits};
 ghost use Rattle.std.specs.Float.Ieee.Scale.{finite};
@@ -180,4 +181,6 @@ impl Sample for f32 {
             to[i] = plus_zero(row[i]);
         }
     }
+
+    ghost small = { Prim.search rules };
 }

@@ -19,7 +19,7 @@ pub fn fronts<'a>(
     requires { (0 < places) × (places ≤ 63) × (length out.old ≤ 4096) × (length values.now ≡ length out.old * places) × (length positions.now ≡ length values.now) × (length columns.now ≡ length values.now) × (length starts.now ≡ length out.old) × (length origin_rows.old ≡ length out.old) × (length origin_columns.old ≡ length out.old) × ((x : ℕ) → x < length out.old → get_or starts.now x 0 < places) × (s ≤ 4294967800) }
     ensures { FrontsTold greys places (length out.old) s values.now positions.now columns.now starts.now out.new origin_rows.new origin_columns.new }
 {
-    columns_grey::fronts(places, values, positions, starts, s, out);
+    columns::fronts(places, values, positions, starts, s, out);
     origin::tell(
         places,
         positions,

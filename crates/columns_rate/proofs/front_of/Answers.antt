@@ -1,5 +1,0 @@
--- `columns::rate::front_of` meets its contract.
-use Rattle.columns_rate.proofs.front_of.Goals as goal
-
-pub returns : goal.returns
-returns c = rw (← c.wide.ensures.0) c.lent.ensures

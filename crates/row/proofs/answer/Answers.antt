@@ -1,0 +1,12 @@
+-- `answer` meets its contract, by the test that led to each end.
+use borrow.Author.Tests.{le-leb, lt-leb}
+use Rattle.row.specs.Inner.{answer_put}
+use Rattle.row.proofs.answer.Goals as goal
+
+pub returns-then-ahead-t : goal.returns-then-ahead-t
+unfolding answer_put
+returns-then-ahead-t g c = simp (le-leb _ _ c.if-ahead-t.true)
+
+pub returns-else-ahead-t : goal.returns-else-ahead-t
+unfolding answer_put
+returns-else-ahead-t g c = simp (lt-leb _ _ c.if-ahead-t.false)
