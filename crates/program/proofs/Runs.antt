@@ -10,7 +10,8 @@ use native.Mathlib.Omega.{arith}
 use lib.Dec.{ltb}
 use lib.ListN.{length, take, drop, length-append, length-drop, take-append-drop}
 use lib.Seq.{length-take-le, take-add, take_at, drop_at}
-use Rattle.std.proofs.Common.{Ok, Err}
+use Rattle.std.proofs.Common.{Ok, Err, IsErrAnd}
+use Rattle.std.specs.declared.result.Result.{Result}
 use Rattle.morph.proofs.Lists.{split}
 use Rattle.plan_record.specs.Plan.{plan_ahead}
 use Rattle.picture_state.specs.declared.State.{State}
@@ -60,10 +61,10 @@ wants_few {m} {L} s o = wants_at m.phase m.wants m.state L s.f o s.means
 -- ---- what is lost
 
 -- a loss lies within what was moved: as many bytes read, the same end, and no more bytes taken than were given
-record Within (l : Loss) (m : Moved) : Type 0 where
-  read : l.moved.read ≡ m.read
-  ended : l.moved.ended ≡ m.ended
-  few : l.moved.given + l.taken ≤ m.given
+pub record Within (l : Loss) (m : Moved) : Type 0 where
+  pub read : l.moved.read ≡ m.read
+  pub ended : l.moved.ended ≡ m.ended
+  pub few : l.moved.given + l.taken ≤ m.given
 
 -- ---- the counts
 
@@ -180,6 +181,11 @@ module _ {hand : List ℕ} {L : MachineMemory} {m : Machine} {moved : Moved} (r 
     gave = λ rest s.
         r.given ∙ sym (ap length (r.told rest s ∙ ap (λ l. r.out ++ l) (over_nothing m.phase m.wants m.state L r.f e r.means (hand ++ rest)) ∙ append-nil r.out));
   }
+
+-- what is told of a loss, of the answer that hands it on
+pub told_lost : (r : Result Moved Loss) {l : Loss} (total : ℕ) → IsErrAnd r (λ e. e ≡ l) → ProgramRan (Err l) × Settled (Err l) total → ProgramRan r × Settled r total
+told_lost (Ok m) total h p = absurd h
+told_lost (Err e) total h p = rw h p
 
 -- what a write that failed leaves
 given_lost : (before : Moved) {l : Loss} (put : ℕ) → (l.moved ≡ before) × (l.taken < put) → Within l (record { read = before.read; ended = before.ended; given = before.given + put })

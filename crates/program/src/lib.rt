@@ -129,15 +129,15 @@ fn go<H: Clock + Eprint>(
 pub fn run<H: Clock + Eprint>(rt: &H, mut from: Input, mut to: Output) -> Result<Moved, Loss>
     ensures { ProgramRan result }
 {
-    let mut bytes = at_hand();
-    let mut frame = frame();
-    let mut row = floats();
-    let mut came = floats();
-    let mut greys = cells();
-    let mut rates = floats();
-    let mut positions = positions();
-    let mut starts = cells();
-    let mut lengths = cells();
+    let mut bytes = [0; 16384]; // a row of 4,096 floats, the most that a machine wants at hand
+    let mut frame = [0; 16385]; // a marker and such a row
+    let mut row = [0.0; 4096];
+    let mut came = [0.0; 4096];
+    let mut greys = [0; 4096];
+    let mut rates = [0.0; 4096];
+    let mut positions = [0; 4096];
+    let mut starts = [0; 4096];
+    let mut lengths = [0; 4096];
     let mut total = 0;
     go(
         rt,
@@ -154,38 +154,4 @@ pub fn run<H: Clock + Eprint>(rt: &H, mut from: Input, mut to: Output) -> Result
         &mut lengths,
         &mut total,
     )
-}
-
-// ---- memory
-
-// A row of 4,096 floats, the most that a machine wants at hand.
-fn at_hand() -> [u8; 16384]
-    ensures { 16384 ≡ length result }
-{
-    [0; 16384]
-}
-
-// A marker and such a row.
-fn frame() -> [u8; 16385]
-    ensures { 16385 ≡ length result }
-{
-    [0; 16385]
-}
-
-fn floats() -> [f32; 4096]
-    ensures { 4096 ≡ length result }
-{
-    [0.0; 4096]
-}
-
-fn positions() -> [u8; 4096]
-    ensures { 4096 ≡ length result }
-{
-    [0; 4096]
-}
-
-fn cells() -> [u8; 4096]
-    ensures { 4096 ≡ length result }
-{
-    [0; 4096]
 }

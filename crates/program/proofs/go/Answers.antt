@@ -1,24 +1,24 @@
 -- `Going` is carried round.
 use Rattle.std.proofs.Common.{◌≡◌, length, arith}
-use Rattle.program.proofs.Runs.{wants_few, runs_stands, going_first, going_lost, going_latest, fetched_latest, turned_due, turned_lost, going_next}
+use Rattle.program.proofs.Runs.{wants_few, runs_stands, going_first, told_lost, going_lost, going_latest, fetched_latest, turned_due, turned_lost, going_next}
 use Rattle.program.proofs.go.Goals as goal
 
 pub loop-machine-init : goal.loop-machine-init
 loop-machine-init g c = (going_first _ _ _ _ _ c.requires.0 c.requires.5 c.at_head-machine.ensures c.nothing.ensures, c.requires.2)
 
-pub fetch-fetched-requires : goal.fetch-fetched-requires
-fetch-fetched-requires g c =
+pub fetch-requires : goal.fetch-requires
+fetch-requires g c =
     let r = c.loop-machine.invariant.0 in
     let w = wants_few (runs_stands r.runs) (c.is_on.ensures.0 c.loop-machine-test.true) in
     (r.there, omega (arith, c.loop-machine.auto.bytes, c.requires.1), going_latest r)
 
 pub returns-in_err-fetched : goal.returns-in_err-fetched
-returns-in_err-fetched g c = going_lost c.loop-machine.invariant.0 _ c.in_err-fetched.ensures
+returns-in_err-fetched g c = told_lost _ c.fetch.new.total c.from_residual.ensures.1 (going_lost c.loop-machine.invariant.0 c.fetch.new.total c.in_err-fetched.ensures)
 
-pub send-moved-requires : goal.send-moved-requires
-send-moved-requires g c =
+pub send-requires : goal.send-requires
+send-requires g c =
     let l = c.loop-machine in
-    let f = c.fetch-fetched in
+    let f = c.fetch in
     let t = c.turn-turned in
     let had = c.in_ok-fetched.ensures in (
       omega (arith, t.ensures.put_there, t.auto.frame, l.invariant.1),
@@ -29,12 +29,12 @@ send-moved-requires g c =
 pub returns-in_err-moved : goal.returns-in_err-moved
 returns-in_err-moved g c =
     let had = c.in_ok-fetched.ensures in
-    turned_lost c.loop-machine.invariant.0 had (c.is_on.ensures.0 c.loop-machine-test.true) c.turn-turned.ensures had.short _ c.in_err-moved.ensures
+    told_lost _ c.send.new.total c.from_residual-in_err-moved.ensures.1 (turned_lost c.loop-machine.invariant.0 had (c.is_on.ensures.0 c.loop-machine-test.true) c.turn-turned.ensures had.short c.send.new.total c.in_err-moved.ensures)
 
 pub loop-machine-preserved : goal.loop-machine-preserved
 loop-machine-preserved g c =
     let l = c.loop-machine in
-    let f = c.fetch-fetched in
+    let f = c.fetch in
     let t = c.turn-turned in
     let k = c.keep-left in
     let had = c.in_ok-fetched.ensures in
