@@ -30,7 +30,7 @@ fn move_on(
     let width = state.width;
     let rows = picture_state::height(state);
     let cells = chain::cells_of(stage, width);
-    stage_origin_grey::move_on(
+    stage_origin::move_on(
         stage,
         rows,
         state.step,
@@ -60,7 +60,7 @@ fn bring<'a>(
     let stage = picture_origin::only::stage(state);
     let width = state.width;
     let cells = chain::cells_of(stage, width);
-    stage_origin_grey::fronts(
+    stage_origin::fronts(
         plan_record::size_of(stage),
         &values[..cells],
         &positions[..cells],

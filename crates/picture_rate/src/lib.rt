@@ -38,7 +38,7 @@ fn advance(
     let t = state.step;
     let cells = plan_record::cells(plan, width);
     let records = plan_record::records(plan, width);
-    let ran = chain_rate::run(
+    let ran = chain::run(
         plan,
         0,
         rows,
