@@ -1,7 +1,6 @@
 -- A queue of samples fits in memory, since a sample takes at most four bytes.
-use Prim.Native.Nat.{ℕ, ◌+◌, ◌-◌, ◌*◌, ◌%◌, ◌≤◌, ◌<◌, max}
-use native.Mathlib.Nat.{mod-le}
-use native.Mathlib.Omega.{arith}
+use Rattle.std.proofs.Common.{ℕ, ◌+◌, ◌-◌, ◌*◌, ◌%◌, ◌≤◌, ◌<◌, max, arith}
+use Rattle.std.proofs.Math.Nat.{mod-le}
 use prog.Memory.{up}
 
 -- a rounding adds no more than what it rounds to
