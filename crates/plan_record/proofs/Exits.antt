@@ -1,9 +1,10 @@
 -- The exits of a judge: what a `?` hands up is the number that the rule gave, and it is the first that is not 0.
-use mathlib.Core.Path.{◌≡◌, refl, ◌∙◌}
+use mathlib.Core.Path.{◌≡◌, refl, sym, ◌∙◌}
+use mathlib.Core.Bool.{false, false≢true}
 use mathlib.Core.List.{List, ◌∷◌}
 use Prim.Native.Nat.{ℕ}
 use Rattle.std.specs.Prelude.{Result, Ok, Err}
-use Rattle.std.specs.Result.{IsErrAnd}
+use Rattle.std.specs.Result.{IsErrAnd, is_err}
 use Rattle.morph.specs.declared.refusal.Refusal.{Refusal}
 use Rattle.morph.specs.declared.refusal.Refusal.TheVariants.{StageCount, StageKind, Extent, Size, SampleKind, Memory, RowLength, NotFinite, AllRead, NoDrain, NotThere, State, EndsEarly, BytesAfter, Cells, Negative, FilterOrder, OverOneStage, EmptyBand, LastNumber}
 use Rattle.morph.specs.Refusals.{refusal_number, said}
@@ -42,3 +43,8 @@ module _ {A : Type 0} (refusal : Refusal) where
   -- the same where it is the first rule's of several
   pub first_up : (r : Result A Refusal) (a : ℕ) (l : List ℕ) → IsErrAnd r (λ e. e ≡ refusal) → refusal_number refusal ≡ a → said r ≡ first_of (a ∷ l)
   first_up r a l h e = said_up r h e ∙ found a l refl (λ z. refused_some refusal (e ∙ z))
+
+-- a judge that refuses nothing has the number 0
+pub said_ok : {A : Type 0} (r : Result A Refusal) → is_err r ≡ false → said r ≡ 0
+said_ok (Ok _) e = refl
+said_ok (Err _) e = absurd (false≢true (sym e))
