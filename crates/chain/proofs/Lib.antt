@@ -1,3 +1,3 @@
 pub mod Memory
-pub mod Run
+pub mod Plan
 pub mod Rests

@@ -14,7 +14,7 @@ use Rattle.memory.specs.Memory.{Memory, front_in, behind, all_sound}
 use Rattle.columns.specs.Inner.{Lent}
 use Rattle.chain.specs.Inner.{Begins}
 use Rattle.chain.proofs.Memory.{Sized, AtLeast, append, append_front, append_behind}
-use Rattle.chain.proofs.Run.{front_lent}
+use Rattle.chain.proofs.Plan.{front_lent}
 use Rattle.origin.specs.Inner.{FrontsTold, OriginsMoved}
 use Rattle.picture_state.specs.declared.State.{State}
 use Rattle.picture_state.specs.Numbers.{height_of}

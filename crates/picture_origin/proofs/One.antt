@@ -17,7 +17,7 @@ use Rattle.plan_record.specs.Plan.{unused, used, filter_of, total, size_of, belo
 use Rattle.memory.specs.Memory.{Memory, front_in, behind, sound_records, all_sound, Whole, StageHolds, Holds}
 use Rattle.memory.proofs.Records.{sound_test}
 use Rattle.chain.specs.Inner.{Fronted}
-use Rattle.chain.proofs.Run.{after_none, after_more}
+use Rattle.chain.proofs.Plan.{after_none, after_more}
 use Rattle.picture_state.specs.declared.State.{State}
 use Rattle.picture_state.specs.declared.Answer.{Answer}
 use Rattle.picture_state.specs.Numbers.{height_of}

@@ -9,16 +9,21 @@ use native.Mathlib.Numerals.{add-one}
 use native.Mathlib.Omega.{arith}
 use lib.Dec.{eqb, leb}
 use lib.ListN.{length, get_or}
+use Rattle.std.specs.Prelude.{Result, Ok, Err}
+use Rattle.std.specs.Result.{IsErrAnd}
+use Rattle.morph.specs.declared.refusal.Refusal.{Refusal}
+use Rattle.morph.specs.Refusals.{refusal_number}
 use Rattle.morph.specs.Lists.{sum_to, tabulate}
 use Rattle.morph.specs.Picture.{Picture}
 use Rattle.morph.specs.Numbers.{given, first_of, extent_number}
 use Rattle.morph.proofs.Lists.{split, neither, length_tabulate, get_d_tabulate, sum_to_same, sum_to_le}
 use Rattle.morph.proofs.Numbers.{first_one, first_skip, first_found, first_zero, given_zero}
 use Rattle.plan_record.specs.Numbers.{size_number}
+use Rattle.plan_record.proofs.Exits.{refused_some}
 use Rattle.residue.specs.declared.Residue.{Residue}
 use Rattle.residue.specs.declared.Residue.TheVariants.{Sum, Refused}
 use Rattle.residue.specs.Residue.{counted_at, empty_band, some_to, row_residue, negative, residue_number, residue_said, residue_of, Answered, picture_residue, RowsAnswered}
-use Rattle.residue.specs.Inner.{band_number}
+use Rattle.residue.specs.Inner.{band_number, residue_as}
 
 -- ---- one column more
 
@@ -89,6 +94,11 @@ module _ (a b c d row rows : ℕ) (closed input : List ℕ) where
   refusal {n} e h =
       let f : number ≡ n = last_rule ∙ first_found before (sixteen ∷ []) (λ z. h (e ∙ z)) ∙ sym e in
       answered (refused_of n sum h ∙ ap (λ (k : ℕ). residue_of k sum) (sym f))
+
+  -- the same of a refusal that is handed up
+  pub refusal_up : (why : Refusal) (r : Result ℕ Refusal) → IsErrAnd r (λ e. e ≡ why) → refusal_number why ≡ before → Answered a b c d row rows closed input (residue_as r)
+  refusal_up why (Ok _) h e = absurd h
+  refusal_up why (Err _) h e = rw h (refusal e (refused_some why))
 
   -- a row that is refused none of 3, 4, 7 and 21 has 16 alone, and is answered by that and its sum
   pub only_negative : before ≡ 0 → number ≡ sixteen

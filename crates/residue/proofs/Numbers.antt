@@ -1,5 +1,5 @@
 -- The numbers that do not look at a pixel: the first broken rule of 3, 4, 7, 21, and what holds where none is broken.
-use mathlib.Core.Path.{◌≡◌, refl, sym, ◌∙◌}
+use mathlib.Core.Path.{◌≡◌, refl, sym}
 use mathlib.Core.Bool.{not}
 use mathlib.Core.List.{List, [], ◌∷◌}
 use Prim.Native.Nat.{ℕ, zero, suc, ◌+◌, ◌*◌, ◌≤◌, ◌<◌}
@@ -8,7 +8,7 @@ use lib.Dec.{eqb, leb}
 use Rattle.morph.specs.Lists.{Each}
 use Rattle.morph.specs.Numbers.{given, first_of, outside, extent_number}
 use Rattle.morph.proofs.Lists.{neither}
-use Rattle.morph.proofs.Numbers.{first_zero, given_zero, skip, found, inside, extents_fit}
+use Rattle.morph.proofs.Numbers.{first_zero, given_zero, skip, inside, extents_fit}
 use Rattle.plan_record.specs.Numbers.{size_number}
 use Rattle.residue.specs.Residue.{empty_band, closing_number}
 use Rattle.residue.specs.Inner.{band_number}
@@ -39,18 +39,14 @@ module _ (a b c d row rows width long : ℕ) where
   abbrev empty : ℕ
   empty = given 21 (empty_band (a + b) (c + d) width rows)
 
-  pub by_extents : {n : ℕ} → n ≡ extents → (n ≡ 0 → ⊥) → n ≡ band_number a b c d row rows width long
-  unfolding band_number
-  by_extents e h = found extents (size ∷ late ∷ uneven ∷ empty ∷ []) e h
-
-  module _ {n : ℕ} (e : n ≡ extents) (z : n ≡ 0) where
-    pub by_size : {m : ℕ} → m ≡ size → (m ≡ 0 → ⊥) → m ≡ band_number a b c d row rows width long
+  -- what is first broken where the extents fit, and where the size does too
+  module _ (fit : 0 ≡ extents) where
+    pub by_size : {n : ℕ} → n ≡ first_of (size ∷ late ∷ uneven ∷ empty ∷ []) → n ≡ band_number a b c d row rows width long
     unfolding band_number
-    by_size f h = skip extents (size ∷ late ∷ uneven ∷ empty ∷ []) (sym e ∙ z) (found size (late ∷ uneven ∷ empty ∷ []) f h)
+    by_size e = skip extents (size ∷ late ∷ uneven ∷ empty ∷ []) (sym fit) e
 
-    pub by_rest : {m k : ℕ} → m ≡ size → m ≡ 0 → k ≡ first_of (late ∷ uneven ∷ empty ∷ []) → k ≡ band_number a b c d row rows width long
-    unfolding band_number
-    by_rest f y g = skip extents (size ∷ late ∷ uneven ∷ empty ∷ []) (sym e ∙ z) (skip size (late ∷ uneven ∷ empty ∷ []) (sym f ∙ y) g)
+    pub by_rest : {n : ℕ} → 0 ≡ size → n ≡ first_of (late ∷ uneven ∷ empty ∷ []) → n ≡ band_number a b c d row rows width long
+    by_rest f e = by_size (skip size (late ∷ uneven ∷ empty ∷ []) (sym f) e)
 
   pub within : band_number a b c d row rows width long ≡ 0 → Within a b c d row rows width long
   unfolding band_number
@@ -72,9 +68,9 @@ module _ (a b c d row rows width long : ℕ) where
         down = leb-false rows (2 * (c + d)) y;
       }
 
-  -- the same of a number that was found
-  pub taken : {n : ℕ} → n ≡ band_number a b c d row rows width long → n ≡ 0 → Within a b c d row rows width long
-  taken e z = within (sym e ∙ z)
+  -- the same of a judgement
+  pub taken : 0 ≡ band_number a b c d row rows width long → Within a b c d row rows width long
+  taken e = within (sym e)
 
 -- ---- the numbers that every row of a picture has alike
 

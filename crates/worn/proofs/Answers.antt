@@ -7,6 +7,10 @@ use native.Mathlib.Omega.{arith}
 use borrow.Author.Tests.{le-leb, lt-leb, leb-false, eqb-true, eq-eqb, ne_eqb, not-false}
 use lib.Dec.{eqb, ltb, leb}
 use lib.ListN.{length}
+use Rattle.std.specs.Prelude.{Result, Ok, Err}
+use Rattle.std.specs.Result.{IsErrAnd}
+use Rattle.morph.specs.declared.refusal.Refusal.{Refusal}
+use Rattle.morph.specs.Refusals.{refusal_number}
 use Rattle.morph.specs.Numbers.{given, first_of}
 use Rattle.morph.proofs.Lists.{split, neither}
 use Rattle.morph.proofs.Numbers.{first_one, first_zero, given_zero}
@@ -20,7 +24,7 @@ use Rattle.worn.specs.declared.Begun.{Begun}
 use Rattle.worn.specs.declared.Asked.{Asked}
 use Rattle.worn.specs.Worn.{first_question, over_limit, say_of, is_broken_of, question_with, worn_said, pair_number, question_after, begun_of, WornStart, asked_of, WornPair}
 use Rattle.worn.specs.Runs.{Bytes}
-use Rattle.worn.specs.Inner.{Awaits}
+use Rattle.worn.specs.Inner.{Awaits, asked_as}
 use Rattle.worn.proofs.Sound.{sound, room, row_taken}
 
 -- ---- a start
@@ -171,6 +175,11 @@ module _ (Q : Question) (closed input : List ℕ) where
 
         pub pair_negative : {r : Asked} {n : ℕ} → Answered Q.left Q.right Q.up Q.down Q.row Q.rows closed input (Refused n) → r ≡ record { answer = Not n; question = Q } → WornPair Q closed input r
         pair_negative h q = refuses (number_residue ∙ sym h.number) (refused_number Q.left Q.right Q.up Q.down Q.row Q.rows closed input h) q
+
+        -- the same of a refusal that is handed up
+        pub pair_up : (why : Refusal) (r : Result Question Refusal) → IsErrAnd r (λ e. e ≡ why) → Answered Q.left Q.right Q.up Q.down Q.row Q.rows closed input (Refused (refusal_number why)) → WornPair Q closed input (asked_as Q r)
+        pair_up why (Ok _) h e = absurd h
+        pair_up why (Err _) h e = rw h (pair_negative e refl)
 
   -- ---- a pair that is refused, one that is taken, and one after a yes
 

@@ -1,17 +1,31 @@
 -- A question that breaks no rule: what holds of it.
 use mathlib.Core.Path.{◌≡◌, refl, sym, ◌∙◌}
-use mathlib.Core.Bool.{Bool, true, false, not, ◌||◌}
+use mathlib.Core.Bool.{Bool, true, false, not, ◌||◌, false≢true}
 use Prim.Native.Nat.{ℕ, ◌+◌, ◌*◌, ◌≤◌, ◌<◌}
 use native.Mathlib.Nat.{mul-le-mul_right}
 use native.Mathlib.Omega.{arith}
 use borrow.Author.Tests.{ltb-false, lt-ltb, le-ltb, eqb-true, eq-eqb, ne_eqb, not-false}
 use lib.Dec.{eqb, ltb}
+use Rattle.std.specs.Prelude.{Result, Ok, Err}
+use Rattle.std.specs.Result.{is_err}
+use Rattle.morph.specs.declared.refusal.Refusal.{Refusal}
+use Rattle.morph.specs.Refusals.{said}
 use Rattle.morph.proofs.Lists.{neither}
+use Rattle.plan_record.proofs.Exits.{refused_some}
 use Rattle.residue.specs.Residue.{closing_number}
 use Rattle.residue.specs.Inner.{band_number}
 use Rattle.residue.proofs.Numbers.{within, closing_band}
 use Rattle.worn.specs.declared.Question.{Question}
 use Rattle.worn.specs.Worn.{is_broken_of}
+
+-- a judgement that is a refusal has a number, and one that is none has none
+pub erred : {A : Type 0} (r : Result A Refusal) → is_err r ≡ true → said r ≡ 0 → ⊥
+erred (Ok _) h z = absurd (false≢true h)
+erred (Err why) h z = refused_some why z
+
+pub passed : {A : Type 0} (r : Result A Refusal) → is_err r ≡ false → said r ≡ 0
+passed (Ok _) h = refl
+passed (Err why) h = absurd (false≢true (sym h))
 
 -- the largest sum that a question may have
 pub most_fits : (width row : ℕ) → width ≤ 4096 → row ≤ 65535 → 255 * width * row ≤ 68449996800

@@ -3,13 +3,13 @@
 
 ghost use Rattle.std.specs.Prelude.{◌≡◌, ◌+◌, ◌<◌, length};
 ghost use Rattle.worn.specs.Worn.{first_question, over_limit, say_of, is_broken_of, question_with, WornStart, WornPair};
-ghost use Rattle.worn.specs.Inner.{Awaits};
+ghost use Rattle.worn.specs.Inner.{asked_as};
 
-use residue::Residue;
+use morph::Refusal;
 
 // What the caller keeps between two pairs: the closing's extents, the picture's size, the limit, how many rows are read, and what their residues add up to. Whether yes was said can be seen from the last and the limit.
 #[repr(C)]
-#[derive(Clone, Copy)]
+#[derive(Clone, Copy, Debug, PartialEq, Eq)]
 pub struct Question {
     pub left: u8,
     pub right: u8,
@@ -22,8 +22,8 @@ pub struct Question {
     pub sum: u64,
 }
 
-// The answer to a pair.
-#[derive(Clone, Copy)]
+// The answer to a pair. A refusal stays a number here: the definition that the promises cite, `asked_of`, makes it of one.
+#[derive(Clone, Copy, Debug, PartialEq, Eq)]
 pub enum Worn {
     Yes,
     No,
@@ -31,16 +31,16 @@ pub enum Worn {
     Refused(u8),
 }
 
-// What a start gives: 0 and the question before the first pair, or a refusal's number and all zeros.
+// What a start gives: 0 and the question before the first pair, or a refusal's number and all zeros. C reads it, and document 01 says "a refused start .. hands back all zeros" (`begun_of`).
 #[repr(C)]
-#[derive(Clone, Copy)]
+#[derive(Clone, Copy, Debug, PartialEq, Eq)]
 pub struct Begun {
     pub number: u8,
     pub question: Question,
 }
 
 // What a pair gives: the answer, and the question after it.
-#[derive(Clone, Copy)]
+#[derive(Clone, Copy, Debug, PartialEq, Eq)]
 pub struct Asked {
     pub answer: Worn,
     pub question: Question,
@@ -53,13 +53,13 @@ fn first(left: u8, right: u8, up: u8, down: u8, width: usize, rows: usize, limit
     ensures { result ≡ first_question left right up down width rows limit }
 {
     Question {
-        left: left,
-        right: right,
-        up: up,
-        down: down,
-        width: width,
-        rows: rows,
-        limit: limit,
+        left,
+        right,
+        up,
+        down,
+        width,
+        rows,
+        limit,
         row: 0,
         sum: 0,
     }
@@ -69,16 +69,15 @@ fn first(left: u8, right: u8, up: u8, down: u8, width: usize, rows: usize, limit
 pub fn start(left: u8, right: u8, up: u8, down: u8, width: usize, rows: usize, limit: u64) -> Begun
     ensures { WornStart left right up down width rows limit result }
 {
-    let number = residue::judge_closing(left, right, up, down, width, rows);
-    if number != 0 {
-        return Begun {
-            number: number,
+    match residue::judge_closing(left, right, up, down, width, rows) {
+        Ok(()) => Begun {
+            number: 0,
+            question: first(left, right, up, down, width, rows, limit),
+        },
+        Err(refusal) => Begun {
+            number: refusal.number(),
             question: first(0, 0, 0, 0, 0, 0, 0),
-        };
-    }
-    Begun {
-        number: 0,
-        question: first(left, right, up, down, width, rows, limit),
+        },
     }
 }
 
@@ -88,15 +87,16 @@ pub fn start(left: u8, right: u8, up: u8, down: u8, width: usize, rows: usize, l
 fn is_broken(given: Question) -> bool
     ensures { result ≡ is_broken_of given }
 {
-    let number = residue::judge_closing(
+    if residue::judge_closing(
         given.left,
         given.right,
         given.up,
         given.down,
         given.width,
         given.rows,
-    );
-    if number != 0 {
+    )
+    .is_err()
+    {
         return true;
     }
     if given.rows < given.row {
@@ -118,15 +118,15 @@ fn with_row(question: Question, residue: usize) -> Question
     requires { (question.row < 65535) × (question.sum + residue < 18446744073709551616) }
     ensures { result ≡ question_with question residue }
 {
-    let row = question.row + 1;
-    let sum = question.sum + (residue as u64);
-    let mut next = question;
-    next.row = row;
-    next.sum = sum;
-    next
+    Question {
+        row: question.row + 1,
+        sum: question.sum + residue as u64,
+        ..question
+    }
 }
 
 // What is said after a pair: yes where it is certain, no where all rows are read, else not yet.
+#[tactic(auto, using(std::proofs::lemmas::Bool::Decides::nat_tests), unfolding(crate::specs::Worn::say_of))]
 fn say(after: Question) -> Worn
     ensures { result ≡ say_of after }
 {
@@ -139,30 +139,23 @@ fn say(after: Question) -> Worn
     Worn::No
 }
 
-fn told(question: Question) -> Asked
-    ensures { result ≡ record { answer = say_of question; question = question } }
+// The question after a pair that is not refused. 12 is looked for first; 9, 7 and 16, in this order, only while yes has not been said, as from then on no row is read.
+fn next(question: Question, closed: &[u8], input: &[u8]) -> Result<Question, Refusal>
+    ensures { WornPair question closed.now input.now (asked_as question result) }
 {
-    Asked {
-        answer: say(question),
-        question: question,
+    if is_broken(question) {
+        return Err(Refusal::State);
     }
-}
-
-fn refused(question: Question, number: u8) -> Asked
-    ensures { result ≡ record { answer = Worn.Refused number; question = question } }
-{
-    Asked {
-        answer: Worn::Refused(number),
-        question: question,
+    if is_over(question) {
+        return Ok(question);
     }
-}
-
-// Reads a row that is still to come, from rows of the width. Refused 16.
-fn read(question: Question, closed: &[u8], input: &[u8]) -> Asked
-    requires { Awaits question × (length closed.now ≡ question.width) × (length input.now ≡ question.width) }
-    ensures { WornPair question closed.now input.now result }
-{
-    match residue::dark(
+    if question.rows <= question.row {
+        return Err(Refusal::AllRead);
+    }
+    if closed.len() != question.width || input.len() != question.width {
+        return Err(Refusal::RowLength);
+    }
+    let sum = residue::counted(
         question.left,
         question.right,
         question.up,
@@ -171,30 +164,22 @@ fn read(question: Question, closed: &[u8], input: &[u8]) -> Asked
         question.rows,
         closed,
         input,
-    ) {
-        Residue::Sum(sum) => told(with_row(question, sum)),
-        Residue::Refused(number) => refused(question, number),
-    }
+    )?;
+    Ok(with_row(question, sum))
 }
 
-// The next pair of rows. 12 is looked for first; 9, 7 and 16, in this order, only while yes has not been said, as from then on no row is read.
+// The next pair of rows. Refused 12, 9, 7, 16, with the question as it was.
 pub fn pair(question: Question, closed: &[u8], input: &[u8]) -> Asked
     ensures { WornPair question closed.now input.now result }
 {
-    if is_broken(question) {
-        return refused(question, 12);
+    match next(question, closed, input) {
+        Ok(after) => Asked {
+            answer: say(after),
+            question: after,
+        },
+        Err(refusal) => Asked {
+            answer: Worn::Refused(refusal.number()),
+            question,
+        },
     }
-    if is_over(question) {
-        return told(question);
-    }
-    if question.rows <= question.row {
-        return refused(question, 9);
-    }
-    if closed.len() != question.width {
-        return refused(question, 7);
-    }
-    if input.len() != question.width {
-        return refused(question, 7);
-    }
-    read(question, closed, input)
 }

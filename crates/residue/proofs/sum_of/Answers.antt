@@ -1,5 +1,5 @@
 -- The sum so far is that of the columns so far.
-use mathlib.Core.Path.{◌≡◌, refl, ◌∙◌, ap}
+use mathlib.Core.Path.{◌≡◌, ◌∙◌, ap}
 use Prim.Native.Nat.{ℕ, ◌-◌}
 use borrow.Author.Tests.{ltb-false}
 use lib.ListN.{length, get_or}
@@ -10,21 +10,18 @@ use Rattle.residue.proofs.Laws.{sum_next, none_at}
 use native.Mathlib.Omega.{arith}
 use Rattle.residue.proofs.sum_of.Goals as goal
 
-pub loop-x-init : goal.loop-x-init
-loop-x-init c = (omega arith, refl, omega arith)
-
 pub difference-sum-requires : goal.difference-sum-requires
 unfolding part_negative
 difference-sum-requires c =
-    let start = c in
-    ltb-false _ _ (none_at (length start.args.closed.now) (darker start.args.closed.now start.args.input.now) start.requires.2 c.loop-x.x c.loop-x-test.true)
+    let a = c.args in
+    ltb-false _ _ (none_at (length a.closed.now) (darker a.closed.now a.input.now) c.requires.2 c.loop-x.x c.loop-x-test.true)
 
 pub loop-x-preserved : goal.loop-x-preserved
-loop-x-preserved c = (omega arith, sum_next c.loop-x.x _ c.loop-x.invariant.1 c.difference-sum.ensures.0, omega arith)
+loop-x-preserved c = (sum_next c.loop-x.x _ c.loop-x.invariant.0 c.difference-sum.ensures.0, omega arith)
 
 pub returns : goal.returns
 unfolding part_residue
 returns c =
     let a = c.args in
     let e : c.loop-x.x ≡ length a.closed.now = omega arith in
-    c.loop-x.invariant.1 ∙ ap (λ (n : ℕ). sum_to n (λ k. get_or a.closed.now k 0 - get_or a.input.now k 0)) e
+    c.loop-x.invariant.0 ∙ ap (λ (n : ℕ). sum_to n (λ k. get_or a.closed.now k 0 - get_or a.input.now k 0)) e
