@@ -6,13 +6,6 @@ ghost use Rattle.std.specs.Prelude.{◌≡◌, ℕ, ◌*◌, ◌%◌, ◌≤◌,
 ghost use Rattle.morph.specs.Lists.{tabulate};
 ghost use Rattle.origin.specs.Inner.{told_row, told_column, front_kept};
 
-// Of how many rows the columns are kept, s being the steps done.
-fn kept(places: usize, s: usize) -> usize
-    ensures { result ≡ min places s }
-{
-    if s < places { s } else { places }
-}
-
 // The origin of column x's front, whose cell keeps r, goes into the two rows; `last` is where the next row's columns go, and `most` of how many rows they are kept.
 fn tell_one(
     columns: &[u16],
@@ -44,11 +37,11 @@ fn tell_one(
 }
 
 // The origin of every column's front goes into two rows, s being the steps done: the row and the column that it came from.
-pub fn tell<'a>(
+pub fn tell(
     places: usize,
-    positions: &'a [u8],
-    columns: &'a [u16],
-    starts: &'a [u8],
+    positions: &[u8],
+    columns: &[u16],
+    starts: &[u8],
     s: usize,
     origin_rows: &mut [usize],
     origin_columns: &mut [u16],
@@ -57,11 +50,10 @@ pub fn tell<'a>(
     ensures { (origin_rows.new ≡ tabulate (length origin_columns.old) (λ x. told_row places s (front_kept places positions.now starts.now x))) × (origin_columns.new ≡ tabulate (length origin_columns.old) (λ x. told_column places (length origin_columns.old) s columns.now x (front_kept places positions.now starts.now x))) }
 {
     let last = s % places;
-    let most = kept(places, s);
+    let most = places.min(s);
     let mut lo = 0;
-    let mut x = 0;
-    while x < origin_columns.len() {
-        let at = lo + morph::wide(starts[x]);
+    for x in 0..origin_columns.len() {
+        let at = lo + usize::from(starts[x]);
         let r = positions[at];
         tell_one(
             columns,
@@ -75,6 +67,5 @@ pub fn tell<'a>(
             origin_columns,
         );
         lo += places;
-        x += 1;
     }
 }

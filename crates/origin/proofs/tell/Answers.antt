@@ -1,6 +1,6 @@
 -- `tell` meets its contract. The loop's invariant: the origins of the fronts of the columns before x stand in the two rows.
 use mathlib.Core.Path.{◌≡◌, refl, ◌∙◌}
-use Prim.Native.Nat.{◌+◌, ◌-◌, ◌≤◌, ◌<◌}
+use Prim.Native.Nat.{◌+◌, ◌≤◌, ◌<◌}
 use native.Mathlib.Omega.{arith}
 use lib.ListN.{length, get_or}
 use Rattle.columns.proofs.Cells.{ends_before}
@@ -28,7 +28,7 @@ pub tell_one-requires : goal.tell_one-requires
 tell_one-requires c =
     let l = c.loop-x in
     let n : length l.origin_columns ≡ length c.args.origin_columns.now = omega arith in
-    (omega arith, omega arith, omega arith, refl, c.kept-most.ensures, omega arith, omega arith, omega arith, rw n (c.requires.6 ∙ c.requires.5))
+    (omega arith, omega arith, omega arith, refl, c.min-most.ensures, omega arith, omega arith, omega arith, rw n (c.requires.6 ∙ c.requires.5))
 
 pub overflow_add-lo : goal.overflow_add-lo
 overflow_add-lo c = let i = inside (goal.at.overflow_add-lo c).In-loop-x in omega arith
@@ -36,7 +36,7 @@ overflow_add-lo c = let i = inside (goal.at.overflow_add-lo c).In-loop-x in omeg
 pub loop-x-preserved : goal.loop-x-preserved
 loop-x-preserved c =
     let l = c.loop-x in
-    let w = c.wide in
+    let w = c.from in
     let t = c.tell_one.ensures in
     let e : l.lo + w.result ≡ l.lo + get_or c.args.starts.now l.x 0 = omega arith in
     let n : length l.origin_columns ≡ length c.args.origin_columns.now = omega arith in
