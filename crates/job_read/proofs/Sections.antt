@@ -1,12 +1,12 @@
 -- Laws of the readers: the number of each group by its tests, and what holds where a group is accepted.
 use mathlib.Core.Path.{◌≡◌, refl, sym, ap, ◌∙◌}
 use mathlib.Core.List.{List, [], ◌∷◌, ◌++◌}
-use Prim.Native.Nat.{ℕ, zero, suc, ◌+◌, ◌-◌, ◌*◌, ◌/◌, ◌≤◌, ◌<◌}
+use Prim.Native.Nat.{ℕ, zero, suc, ◌+◌, ◌-◌, ◌*◌, ◌≤◌, ◌<◌}
 use native.Mathlib.Omega.{arith}
 use borrow.Author.Tests.{lt-ltb, le-ltb, eq-eqb, ne_eqb, ltb-false, eqb-true}
 use lib.Dec.{eqb, ltb}
-use lib.ListN.{length, get_or, take, drop}
-use lib.Seq.{get_or-take}
+use lib.ListN.{length, get_or, take, drop, length-drop, get_or-append}
+use lib.Seq.{get_or-take, length-take-le}
 use Rattle.morph.proofs.Lists.{split, length_tabulate, tabulate_ext}
 use Rattle.morph.specs.Numbers.{given, first_of}
 use Rattle.morph.proofs.Numbers.{first_one, first_zero, given_zero, skip, found}
@@ -18,17 +18,15 @@ use Rattle.plan_record.proofs.Exits.{refused_some}
 use Rattle.plan_record.specs.declared.Plan.{Plan}
 use Rattle.plan_record.specs.declared.Reading.{Reading}
 use Rattle.plan_record.specs.Numbers.{sample_number, size_number}
-use Rattle.plan_record.specs.Plan.{plan_of, count_number, stage_number, stage_out_of, stages_from, stages_number, plan_number, plan_read, reading_of, plan_given}
+use Rattle.plan_record.specs.Plan.{plan_of, count_number, stage_number, stage_out_of, stages_from, stages_number, plan_number, plan_read, reading_of}
 use Rattle.plan_record.specs.Inner.{reading_as}
-use Rattle.std.specs.Simd.{first_chunks}
-use Rattle.plan_read.proofs.Chunks.{plan_cut}
 use Rattle.plan_record.proofs.Numbers.{size_accepted}
-use Rattle.plan_record.proofs.Laws.{reading_refused, count_accepted}
+use Rattle.plan_record.proofs.Laws.{refused_answer, reading_refused, count_accepted}
 use Rattle.plan_record.proofs.Named.{counted}
 use Rattle.job_read.specs.declared.Job.{Job}
 use Rattle.job_read.specs.declared.Head.{Head}
 use Rattle.job_read.specs.declared.Image.{Image}
-use Rattle.job_read.specs.Inner.{cut_number, Cut, head_as, read_as, front_number}
+use Rattle.job_read.specs.Inner.{head_as, read_as, front_number}
 use Rattle.job_read.specs.Layout.{row_bytes, head_begins, width_from, rows_from, job_from}
 use Rattle.job_read.specs.Job.{missing, plan_section_number, plan_section_of, head_number, head_answered, head_section_number, rows_number, job_number, job_answered, job_read_of}
 
@@ -118,39 +116,29 @@ module _ (count : ℕ) (xs ys : List ℕ) (agree : (k : ℕ) → k < count * 5 �
   unfolding stages_number
   same_numbers = ap first_of (tabulate_ext count (λ i. stage_number xs (i * 5)) (λ i. stage_number ys (i * 5)) same_number)
 
--- the stages' own bytes, five each
+module _ (bytes : List ℕ) {part : List ℕ} (some : 1 ≤ length bytes) (few : count_number (get_or bytes 0 0) ≡ 0) (whole : head_begins (get_or bytes 0 0) ≤ length bytes)
+    (e : part ≡ take (get_or bytes 0 0 * 5) (drop 1 bytes)) where
+  agree : (pad : List ℕ) (k : ℕ) → k < get_or bytes 0 0 * 5 → get_or (part ++ pad) k 0 ≡ get_or (drop 1 bytes) k 0
+  agree pad k h =
+      let l : length part ≡ get_or bytes 0 0 * 5 = ap length e ∙ length-take-le (get_or bytes 0 0 * 5) (drop 1 bytes) (omega (arith, length-drop 1 bytes)) in
+      get_or-append part pad 0 k (omega arith) ∙ ap (λ l. get_or l k 0) e ∙ get_or-take (get_or bytes 0 0 * 5) (drop 1 bytes) k 0 h
 
-cut_cons : (count : ℕ) (rest : List ℕ) {n : ℕ} {chunks : List (List ℕ)} → n ≡ count → 0 ≡ count_number n → chunks ≡ first_chunks 5 (length rest / 5) rest → length chunks ≡ length rest / 5 → n ≤ length chunks → Cut (count ∷ rest) (take n chunks)
-cut_cons count rest {n} {chunks} e f g l h = record {
-  some = omega arith;
-  few = ap count_number (sym e) ∙ sym f;
-  whole = omega arith;
-  chunks = length rest / 5;
-  long = omega arith;
-  all = ap length (sym g) ∙ l;
-  same = ap (λ (m : ℕ). take m chunks) e ∙ ap (take count) g;
-}
-
-pub cut : (bytes : List ℕ) {count : ℕ} {rest : List ℕ} {n : ℕ} {chunks : List (List ℕ)} → bytes ≡ count ∷ rest → n ≡ count → 0 ≡ count_number n → chunks ≡ first_chunks 5 (length rest / 5) rest → length chunks ≡ length rest / 5
-    → n ≤ length chunks → Cut bytes (take n chunks)
-cut bytes {count} {rest} s e f g l h = rw s (cut_cons count rest e f g l h)
-
-module _ (bytes : List ℕ) where
-  -- what is refused before the stages are judged
-  cut_refused : {n : ℕ} → n ≡ cut_number bytes → (n ≡ 0 → ⊥) → n ≡ plan_section_number bytes
-  unfolding plan_section_number
-  cut_refused e h = e ∙ sym (first_front (missing 1 bytes ∷ count_number (get_or bytes 0 0) ∷ missing (head_begins (get_or bytes 0 0)) bytes ∷ []) (stages_number (get_or bytes 0 0) (drop 1 bytes) ∷ []) (λ z. h (e ∙ z)))
-
-  pub cut_up : (why : Refusal) (r : Result Plan Refusal) → IsErrAnd r (λ e. e ≡ why) → refusal_number why ≡ cut_number bytes → reading_as r ≡ plan_section_of bytes
-  unfolding plan_section_of
-  cut_up why r h e = reading_refused (plan_of (stages_from (get_or bytes 0 0) (drop 1 bytes))) why r h (cut_refused e (refused_some why))
-
-  pub section_read : {stages : List (List ℕ)} → Cut bytes stages → plan_given stages ≡ plan_section_of bytes
+  pub section_read : {r : Reading} (pad : List ℕ) → r ≡ plan_read (get_or bytes 0 0) (part ++ pad) → r ≡ plan_section_of bytes
   unfolding plan_read plan_section_of plan_number
-  section_read {stages} t =
+  section_read {r} pad q =
       let c = get_or bytes 0 0 in
-      let m : plan_section_number bytes ≡ plan_number c (drop 1 bytes) = count_accepted c (stages_number c (drop 1 bytes)) (sym t.few) refl (sym (section_stages bytes t.some t.few t.whole)) in
-      ap plan_given t.same ∙ plan_cut (drop 1 bytes) c t.chunks t.long t.all ∙ ap (λ (n : ℕ). reading_of n (plan_of (stages_from c (drop 1 bytes)))) (sym m)
+      let n : stages_number c (part ++ pad) ≡ stages_number c (drop 1 bytes) = same_numbers c (part ++ pad) (drop 1 bytes) (agree pad) in
+      let m : plan_section_number bytes ≡ plan_number c (part ++ pad) = count_accepted c (stages_number c (part ++ pad)) (sym few) refl (sym (section_stages bytes some few whole) ∙ sym n) in
+      let s : stages_from c (part ++ pad) ≡ stages_from c (drop 1 bytes) = same_stages c (part ++ pad) (drop 1 bytes) (agree pad) in
+      q ∙ ap (λ (m : ℕ). reading_of m (plan_of (stages_from c (part ++ pad)))) (sym m) ∙ ap (λ ss. reading_of (plan_section_number bytes) (plan_of ss)) s
+
+pub section_refused : (bytes : List ℕ) {n : ℕ} → n ≡ plan_section_number bytes → (n ≡ 0 → ⊥) → record { number = n; plan = plan_of [] } ≡ plan_section_of bytes
+unfolding plan_section_of
+section_refused bytes q h = refused_answer (plan_of (stages_from (get_or bytes 0 0) (drop 1 bytes))) refl q h
+
+pub section_up : (bytes : List ℕ) (why : Refusal) (r : Result Plan Refusal) → IsErrAnd r (λ e. e ≡ why) → refusal_number why ≡ plan_section_number bytes → reading_as r ≡ plan_section_of bytes
+unfolding plan_section_of
+section_up bytes why r h e = reading_refused (plan_of (stages_from (get_or bytes 0 0) (drop 1 bytes))) why r h e
 
 -- ---- the image head
 

@@ -1,12 +1,12 @@
 // Readers of the job layout, group by group and whole.
 #![tactic(auto)]
 
-ghost use Rattle.std.specs.Prelude.{◌≡◌, ◌≤◌, ◌+◌, length, drop, MatchResult};
-ghost use Rattle.morph.specs.Refusals.{said, refusal_number};
+ghost use Rattle.std.specs.Prelude.{◌≡◌, ◌≤◌, ◌++◌, ◌+◌, ◌-◌, length, drop, replicate};
+ghost use Rattle.morph.specs.Refusals.{said};
 ghost use Rattle.plan_record.specs.Inner.{reading_as};
 ghost use Rattle.job_read.specs.Layout.{sample_bytes_of, job_from};
 ghost use Rattle.job_read.specs.Job.{plan_section_of, head_number, head_answered, head_section_number, rows_number, job_answered, job_read_of};
-ghost use Rattle.job_read.specs.Inner.{cut_number, Cut, head_as, read_as, front_number};
+ghost use Rattle.job_read.specs.Inner.{head_as, read_as, front_number};
 
 use morph::Refusal;
 use plan_record::{Plan, Reading};
@@ -99,27 +99,29 @@ pub fn sample_bytes(sample: u8) -> usize
 
 // ---- the plan section
 
-// The stages of the plan section that the bytes open with, five bytes each. Refused 13 without a count; 1; 13 without all stages.
-fn stages_of(bytes: &[u8]) -> Result<&[[u8; 5]], Refusal>
-    ensures { MatchResult result (λ stages. Cut bytes.now stages.now) (λ refusal. refusal_number refusal ≡ cut_number bytes.now) }
+// The bytes at the front of as many as 16 stages take, zeros after them.
+fn padded(part: &[u8]) -> [u8; 80]
+    requires { length part.now ≤ 80 }
+    ensures { result ≡ part.now ++ replicate (80 - length part.now) 0 }
 {
-    let Some((count, rest)) = bytes.split_first() else {
-        return Err(Refusal::EndsEarly);
-    };
-    let count = usize::from(*count);
-    plan_record::judge_count(count)?;
-    let (stages, _) = rest.as_chunks::<5>();
-    if stages.len() < count {
-        return Err(Refusal::EndsEarly);
-    }
-    Ok(&stages[..count])
+    let mut whole = [0; 80];
+    whole[..part.len()].copy_from_slice(part);
+    whole
 }
 
-// The plan that they say: refused as they are; then stage by stage 2, 3.
+// The plan of the section that the bytes open with.
 fn plan_of(bytes: &[u8]) -> Result<Plan, Refusal>
     ensures { reading_as result ≡ plan_section_of bytes.now }
 {
-    plan_read::plan_from(stages_of(bytes)?)
+    let Some((&count, rest)) = bytes.split_first() else {
+        return Err(Refusal::EndsEarly);
+    };
+    let n = usize::from(count);
+    plan_record::judge_count(n)?;
+    if rest.len() < n * 5 {
+        return Err(Refusal::EndsEarly);
+    }
+    plan_read::read_plan(count, &padded(&rest[..n * 5]))
 }
 
 // The plan section that the bytes open with. Refused 13 without a count; 1; 13 without all stages; stage by stage 2, 3.

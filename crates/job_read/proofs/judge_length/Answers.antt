@@ -2,9 +2,7 @@
 use mathlib.Core.Path.{◌≡◌, ap}
 use Prim.Native.Nat.{ℕ, ◌*◌}
 use Rattle.job_read.specs.Layout.{row_bytes}
-use Rattle.plan_record.proofs.Laws.{mul_most}
 use Rattle.job_read.proofs.Sections.{rows_missing, rows_over, rows_exact}
-use native.Mathlib.Omega.{arith}
 use Rattle.job_read.proofs.judge_length.Goals as goal
 
 pub returns-then-there-need : goal.returns-then-there-need
