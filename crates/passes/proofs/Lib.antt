@@ -1,5 +1,4 @@
 pub mod Reach
 pub mod Pass
-pub mod Rate
 pub mod Flat
 pub mod Rows

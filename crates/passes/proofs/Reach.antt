@@ -12,7 +12,6 @@ use lib.Dec.{ltb, leb}
 use lib.ListN.{length, get_or}
 use Rattle.morph.specs.Lists.{Each}
 use Rattle.morph.specs.Order.{Order}
-use Rattle.morph.specs.Line.{greater}
 use Rattle.morph.proofs.Lists.{split, length_tabulate, get_d_tabulate, each_get_d}
 use Rattle.passes.specs.Inner.{ahead_at, ahead_by, Back, Near, Greatest, Reached, ThenBack, Picks, Any}
 
@@ -210,22 +209,12 @@ module _ {A : Type 0} (O : Order A) (P : A → Type 0) (pick : A → A → A) (c
       has = λ i l. ⊎_elim (λ (w : s * u ≤ i). behind i l w) (λ (w : suc i ≤ s * u). along (suc i) i (omega arith) l w) (below_or (s * u) i);
     }
 
--- ---- the order's own choice, and steps of a line
+-- ---- steps of a line
 
 module _ {A : Type 0} (O : Order A) where
   pub any_each : (l : List A) → Each Any l
   any_each [] = tt
   any_each (a ∷ l) = (tt, any_each l)
-
-  pub greater_picks : Picks O Any (greater O)
-  greater_picks = record {
-    one = λ a b p q. split (O.le a b) (λ h. inr (rw h refl)) (λ h. inl (rw h refl));
-    first = λ a b p q. split (O.le a b) (λ h. rw h h) (λ h. rw h (itself a));
-    second = λ a b p q. split (O.le a b) (λ h. rw h (itself b)) (λ h. rw h (O.total a b h));
-  }
-    where
-      itself : (a : A) → O.le a a ≡ true
-      itself a = split (O.le a a) (λ p. p) (λ p. O.total a a p)
 
 module _ {A : Type 0} (O : Order A) (P : A → Type 0) (pick : A → A → A) (c : Picks O P pick) (xs : List A) (all : Each P xs) where
   pub line_ahead_law : (r s far : ℕ) (ys zs : List A) → s ≡ min (r + 1) (far - r) → Reached O 1 0 r xs ys → zs ≡ ahead_by O.blank pick s ys → Reached O 1 0 (r + s) xs zs

@@ -1,2 +1,3 @@
 pub mod Flat
 pub mod Inner
+pub mod Picks

@@ -1,4 +1,4 @@
-pub mod Over
+pub mod Rows
 pub mod Levels
 pub mod Sweep
 pub mod Back

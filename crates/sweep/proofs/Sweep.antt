@@ -12,7 +12,8 @@ use Rattle.morph.specs.Order.{Order}
 use Rattle.morph.specs.Line.{greater}
 use Rattle.morph.proofs.Lists.{split, each_get_d}
 use Rattle.passes.specs.Inner.{Near, Greatest, Reached, Picks}
-use Rattle.passes.proofs.Reach.{below_or, reach_start, greater_picks, any_each, greatest_join, greatest_same, ahead_first, ahead_second, ahead_either, ahead_cut}
+use Rattle.passes.specs.Picks.{greater_picks}
+use Rattle.passes.proofs.Reach.{below_or, reach_start, any_each, greatest_join, greatest_same, ahead_first, ahead_second, ahead_either, ahead_cut}
 use Rattle.passes.proofs.Flat.{place_fits, some_wide}
 use Rattle.sweep.specs.Inner.{Over, level_of, Climbed, Sound, Swept, Ticked}
 use Rattle.sweep.proofs.Levels.{within, within_start, within_up, within_here, within_next, within_other, within_end, level_up, level_top, level_none, level_far}
@@ -150,10 +151,7 @@ module _ {A : Type 0} (O : Order A) (W H far : ℕ) where
 
 -- ---- the loop of a tick, for any value that the order picks
 
-module _ {A : Type 0} (O : Order A) (P : A → Type 0) (pick : A → A → A) (c : Picks O P pick) (W H far t : ℕ) where
-  fine : (xs : List A) → Sound P W H xs → (k : ℕ) → k < H * W → P (get_or xs k O.blank)
-  fine xs (n, v) k h = each_get_d P xs k O.blank v (rw n h)
-
+module _ {A : Type 0} (O : Order A) (P : A → Type 0) (W H far t : ℕ) where
   -- the steps up to reach r are made
   pub record Ticking (l₀ : List A) (r : ℕ) (l : List A) : Type 0 where
     pub near : r ≤ far
@@ -161,11 +159,15 @@ module _ {A : Type 0} (O : Order A) (P : A → Type 0) (pick : A → A → A) (c
     pub long : length l ≡ length l₀
     pub on : (xs : List A) → Sound P W H xs → Swept O W H xs (λ z. level_of far (t - 1 - z)) l₀ → Swept O W H xs (λ z. within far r (t - z)) l
 
+module _ {A : Type 0} (O : Order A) (P : A → Type 0) (pick : A → A → A) (c : Picks O P pick) (W H far t : ℕ) where
+  fine : (xs : List A) → Sound P W H xs → (k : ℕ) → k < H * W → P (get_or xs k O.blank)
+  fine xs (n, v) k h = each_get_d P xs k O.blank v (rw n h)
+
   module _ (l₀ : List A) where
-    pub ticking_first : Ticking l₀ 0 l₀
+    pub ticking_first : Ticking O P W H far t l₀ 0 l₀
     ticking_first = record { near = omega arith; level = level_none far 0 refl; long = refl; on = λ xs v w. tick_start O P pick c W H xs (fine xs v) far t l₀ w }
 
-    pub ticking_next : (r s : ℕ) (l l' : List A) → s ≡ min (r + 1) (far - r) → r < far → length l' ≡ length l → Ticking l₀ r l → Climbed O.blank pick W H r s t l l' → Ticking l₀ (r + s) l'
+    pub ticking_next : (r s : ℕ) (l l' : List A) → s ≡ min (r + 1) (far - r) → r < far → length l' ≡ length l → Ticking O P W H far t l₀ r l → Climbed O.blank pick W H r s t l l' → Ticking O P W H far t l₀ (r + s) l'
     ticking_next r s l l' e p n a d = record {
       near = omega arith;
       level = level_up far r s a.level e (omega arith);
@@ -173,5 +175,5 @@ module _ {A : Type 0} (O : Order A) (P : A → Type 0) (pick : A → A → A) (c
       on = λ xs v w. tick_next O P pick c W H xs (fine xs v) far t r s a.level e p l l' d (a.on xs v w);
     }
 
-    pub ticking_last : (r : ℕ) (l : List A) → far ≤ r → Ticking l₀ r l → Ticked O P W H far t l₀ l
+    pub ticking_last : (r : ℕ) (l : List A) → far ≤ r → Ticking O P W H far t l₀ r l → Ticked O P W H far t l₀ l
     ticking_last r l q a xs v w = let e : r ≡ far = omega (arith, a.near) in tick_end O P pick c W H xs (fine xs v) far t l (rw e at (a.on xs v w))

@@ -1,2 +1,126 @@
-// Down the columns of a whole picture, ahead in one sweep and then back: what both kinds of samples share. The laws are in proofs/. There is no code.
+// Down the columns of a whole picture, in place, of any kind of samples: ahead in one sweep, and then back. The laws are in proofs/.
 #![tactic(auto)]
+
+ghost use Rattle.std.specs.Prelude.{◌≡◌, ◌⊎◌, ◌+◌, ◌*◌, ◌≤◌, ◌<◌, length};
+ghost use Rattle.morph.specs.Lists.{Each};
+ghost use Rattle.morph.specs.Order.{order_of};
+ghost use Rattle.passes.specs.Inner.{Reached, ThenBack};
+ghost use Rattle.sweep.specs.Inner.{Over, Climbed, Ticked, Lowered, Fronted};
+
+use morph::Kind;
+use passes::{Choice, Largest, Smallest, Way};
+
+// A part takes, pixel by pixel, the better of itself and of another part that lies apart from it: rows.
+fn over_of<W: Way, S: Choice>(width: usize, at: usize, from: usize, picture: &mut [S])
+    requires { (at + width ≤ length picture.old) × (from + width ≤ length picture.old) × ((at + width ≤ from) ⊎ (from + width ≤ at)) }
+    ensures { Over S.samples.order.blank (S.pick W.KIND) width at from picture.old picture.new }
+{
+    for i in 0..width {
+        picture[at + i] = S::better(W::KIND, picture[at + i], picture[from + i]);
+    }
+}
+
+// The same for a kind that is known only now.
+fn over<S: Choice>(kind: Kind, width: usize, at: usize, from: usize, picture: &mut [S])
+    requires { (at + width ≤ length picture.old) × (from + width ≤ length picture.old) × ((at + width ≤ from) ⊎ (from + width ≤ at)) }
+    ensures { Over S.samples.order.blank (S.pick kind) width at from picture.old picture.new }
+{
+    match kind {
+        Kind::Erosion => over_of::<Smallest, S>(width, at, from, picture),
+        Kind::Dilation => over_of::<Largest, S>(width, at, from, picture),
+    }
+}
+
+// ---- ahead
+
+// The step from reach r to r + s at tick t.
+fn climb<S: Choice>(
+    kind: Kind,
+    r: usize,
+    s: usize,
+    width: usize,
+    rows: usize,
+    t: usize,
+    picture: &mut [S],
+)
+    requires { (length picture.old ≡ rows * width) × (0 < s) × (r + s ≤ 255) }
+    ensures { Climbed S.samples.order.blank (S.pick kind) width rows r s t picture.old picture.new }
+{
+    if t < r + s {
+        return;
+    }
+    if rows <= t - r {
+        return;
+    }
+    over(kind, width, (t - r - s) * width, (t - r) * width, picture);
+}
+
+// All steps of tick t.
+fn tick<S: Choice>(kind: Kind, far: usize, width: usize, rows: usize, t: usize, picture: &mut [S])
+    requires { (length picture.old ≡ rows * width) × (far ≤ 255) }
+    ensures { Ticked (order_of kind S.samples.order) S.Fair width rows far t picture.old picture.new }
+{
+    let mut r = 0;
+    while r < far {
+        let s = (r + 1).min(far - r);
+        climb(kind, r, s, width, rows, t, picture);
+        r += s;
+    }
+}
+
+// The sweep: each place has the best of itself and of the `far` places below it.
+pub fn down_ahead<S: Choice>(kind: Kind, far: usize, width: usize, rows: usize, picture: &mut [S])
+    requires { (length picture.old ≡ rows * width) × (far ≤ 255) × (rows ≤ 65535) × Each S.Fair picture.old }
+    ensures { Reached (order_of kind S.samples.order) width 0 far picture.old picture.new }
+{
+    for t in 0..rows + far {
+        tick(kind, far, width, rows, t, picture);
+    }
+}
+
+// ---- back
+
+// Each row from row s on takes the better of itself and of the row s rows above it: from the bottom, so that the row above is as it was, and up to s of them at a time.
+fn lower<S: Choice>(kind: Kind, s: usize, width: usize, rows: usize, picture: &mut [S])
+    requires { (length picture.old ≡ rows * width) × (0 < s) }
+    ensures { Lowered S.samples.order.blank (S.pick kind) width s picture.old picture.new }
+{
+    let mut z = rows;
+    while s < z {
+        let k = (z - s).min(s);
+        z -= k;
+        over(kind, k * width, z * width, (z - s) * width, picture);
+    }
+}
+
+// Each row before row s, but for the first, takes the better of itself and of the row above it, as that has become.
+fn front<S: Choice>(kind: Kind, s: usize, width: usize, rows: usize, picture: &mut [S])
+    requires { (length picture.old ≡ rows * width) × (0 < s) }
+    ensures { Fronted S.samples.order.blank (S.pick kind) width s picture.old picture.new }
+{
+    let end = s.min(rows);
+    for z in 1..end {
+        over(kind, width, z * width, (z - 1) * width, picture);
+    }
+}
+
+// A picture whose columns reach `ahead` ahead reaches back too. A step is as long as all that is reached already, so that one is enough where the columns reach as far ahead as they are to reach back.
+pub fn down_back<S: Choice>(
+    kind: Kind,
+    ahead: usize,
+    far: usize,
+    width: usize,
+    rows: usize,
+    picture: &mut [S],
+)
+    requires { (length picture.old ≡ rows * width) × (ahead ≤ 255) × (far ≤ 255) }
+    ensures { ThenBack (order_of kind S.samples.order) S.Fair width far ahead picture.old picture.new }
+{
+    let mut r = 0;
+    while r < far {
+        let s = (ahead + r + 1).min(far - r);
+        lower(kind, s, width, rows, picture);
+        front(kind, s, width, rows, picture);
+        r += s;
+    }
+}

@@ -1,11 +1,9 @@
 -- Inner: only contracts of inner functions, and proofs, cite what stands here; no promise of a public call is made of it.
--- What a stage, or a plan, leaves of a whole picture that is accepted; and a picture of floats as it is read.
-use Rattle.std.specs.Prelude.{◌≡◌, List, map, ℕ, ◌≤◌, ◌<◌, length, Float}
+-- What a stage, or a plan, leaves of a whole picture that is accepted; and a picture as it is read.
+use Rattle.std.specs.Prelude.{◌≡◌, Option, Some, None, List, map, ℕ, ◌≤◌, ◌<◌, length}
 use Rattle.morph.specs.Lists.{Each}
 use Rattle.morph.specs.Picture.{Picture}
-use Rattle.morph.specs.Rate.{plus_zero_of}
-use Rattle.sample.specs.Samples.{first_bad, rates}
-use Rattle.laws.specs.Laws.{Taken}
+use Rattle.sample.specs.Samples.{Samples, first_bad}
 use Rattle.passes.specs.Flat.{flat_rows, UsedUpTo}
 
 -- f has been applied to a picture of values of which P holds, and P holds of what it made
@@ -14,8 +12,7 @@ pub record Applied {A : Type 0} (P : A → Type 0) (f : Picture A → Picture A)
   pub fine : Each P picture'
   pub used : UsedUpTo W row row'
 
--- a picture of floats as it is read, r being the place of the first that is not finite, or its length: where there is one it stays, and else each negative zero is a positive one
-pub record Read (picture picture' : List Float) (r : ℕ) : Type 0 where
-  pub told : r ≡ first_bad rates picture
-  pub stays : r < length picture → picture' ≡ picture
-  pub taken : length picture ≤ r → (picture' ≡ map plus_zero_of picture) × Each Taken picture'
+-- A picture as it is read, P being what then holds of each value: where a pixel is not accepted, it stays, and the place of the first such pixel is told; else none is, and each value is what it is read as.
+abbrev pub Read : {A : Type 0} → Samples A → (A → Type 0) → List A → List A → Option ℕ → Type 0
+Read K P picture picture' (Some place) = (place ≡ first_bad K picture) × (place < length picture) × (picture' ≡ picture)
+Read K P picture picture' None = (length picture ≤ first_bad K picture) × (picture' ≡ map K.taken picture) × Each P picture'

@@ -1,36 +1,43 @@
-// Which calls on a whole picture are refused, on plain numbers: grey bytes and floats share it.
+// Which calls on a whole picture are refused, on plain numbers, and what such a call answers: every kind of samples shares it.
 #![tactic(auto)]
 
 ghost use Rattle.std.specs.Prelude.{◌≡◌, ◌<◌, ◌/◌, ◌%◌};
+ghost use Rattle.morph.specs.Refusals.{said};
+ghost use Rattle.plan_record.specs.Plan.{record_number};
 ghost use Rattle.whole_judge.specs.Whole.{lent_judged};
 
+use morph::Refusal;
+use plan_record::Plan;
+
 // What a call on a whole picture answers: 0, or a refusal's number; for 8 the row and the column of the first pixel that is not finite, else zeros.
+// It stays a record of numbers: C reads it.
 #[repr(C)]
-#[derive(Clone, Copy)]
+#[derive(Clone, Copy, Debug, PartialEq, Eq)]
 pub struct Filtered {
     pub number: u8,
     pub row: usize,
     pub column: usize,
 }
 
-// The number of what is lent beside a plan whose own number is told: that number; 4; 7 for the picture; 6 for the row.
-pub fn judge(number: u8, width: usize, rows: usize, pixels: usize, places: usize) -> u8
-    ensures { result ≡ lent_judged number width rows pixels places }
+// Whether a plan may be applied to what is lent beside it. Refused as the plan is; then 4; 7 for the picture; 6 for the row.
+pub fn judge(
+    plan: Plan,
+    width: usize,
+    rows: usize,
+    pixels: usize,
+    places: usize,
+) -> Result<(), Refusal>
+    ensures { said result ≡ lent_judged (record_number plan) width rows pixels places }
 {
-    if number != 0 {
-        return number;
-    }
-    let number = plan_record::judge_size(width, rows);
-    if number != 0 {
-        return number;
-    }
+    plan_record::judge(plan)?;
+    plan_record::judge_size(width, rows)?;
     if pixels != rows * width {
-        return 7;
+        return Err(Refusal::RowLength);
     }
     if places < width {
-        return 6;
+        return Err(Refusal::Memory);
     }
-    0
+    Ok(())
 }
 
 // The answer of a call that names no pixel.
@@ -38,7 +45,7 @@ pub fn say(number: u8) -> Filtered
     ensures { result ≡ record { number = number; row = 0; column = 0 } }
 {
     Filtered {
-        number: number,
+        number,
         row: 0,
         column: 0,
     }

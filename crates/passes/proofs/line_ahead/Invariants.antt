@@ -1,0 +1,13 @@
+-- The slice that the flag names has reached r ahead.
+use mathlib.Core.Path.{◌≡◌}
+use Prim.Native.Nat.{◌-◌, ◌≤◌}
+use lib.ListN.{length}
+use Rattle.morph.specs.Order.{order_of}
+use Rattle.passes.specs.Inner.{held, Reached}
+use Rattle.passes.proofs.line_ahead.Given as goal
+
+abbrev pub invariant-loop-r : goal.invariant-loop-r
+invariant-loop-r g l = (length l.a ≡ length l.initial.a) × (length l.t ≡ length l.initial.a) × (l.r ≤ l.far) × Reached (order_of l.kind g.S.Sample.samples.order) 1 0 l.r l.initial.a (held l.flip l.a l.t)
+
+abbrev pub decreases-loop-r : goal.decreases-loop-r
+decreases-loop-r g l = l.far - l.r

@@ -1,8 +1,0 @@
--- Each arm is the loop of the kind that it names.
-use Rattle.passes_rate.proofs.pair.Goals as goal
-
-pub returns-in-Erosion : goal.returns-in-Erosion
-returns-in-Erosion c = rw c.in-Erosion.is c.pair_least.ensures
-
-pub returns-in-Dilation : goal.returns-in-Dilation
-returns-in-Dilation c = rw c.in-Dilation.is c.pair_most.ensures
