@@ -1,16 +1,9 @@
 -- A float and its four bytes: from bytes to a float and back, and from a float to bytes and back, nothing is lost.
 -- By which idea: the library's laws of `of_bits` and `to_bits`, and that four digits to the base 256 make one number below 2 ^ 32.
-use mathlib.Core.Path.{◌≡◌, sym, ap, ◌∙◌}
-use mathlib.Core.Bool.{true, not}
-use mathlib.Core.List.{List, [], ◌∷◌, ◌++◌, append_assoc}
-use Prim.Native.Nat.{ℕ, suc, ◌+◌, ◌/◌, ◌%◌, ◌≤◌, ◌<◌}
-use native.Mathlib.Nat.{add-zero}
-use native.Mathlib.Omega.{arith}
-use borrow.Author.Tests.{lt-ltb, le-ltb}
-use lib.Dec.{T}
-use lib.ListN.{length, take, drop, set}
-use lib.Seq.{get_or-drop, drop_at, length-take-le, sets-eq}
-use lib.Ieee.{Float, nan, binary32, of_bits, to_bits, fits, nan_bits}
+use Rattle.std.proofs.Common.{◌≡◌, sym, ap, ◌∙◌, true, List, [], ◌∷◌, ◌++◌, append_assoc, ℕ, suc, ◌+◌, ◌/◌, ◌%◌, ◌≤◌, ◌<◌, add-zero, arith, lt-ltb, T, length, take, drop, set, get_or-drop, drop_at, length-take-le, Float}
+use Rattle.std.proofs.lemmas.List.Edits.{sets-eq}
+use Rattle.std.specs.Float.{nan, binary32}
+use Rattle.std.specs.Float.Ieee.{of_bits, to_bits, fits}
 use lib.Ieee.Bits.{of_bits-to_bits, to_bits-of_bits, to_bits-lt, nan_bits_is, nan_bits_above}
 use lib.Ieee.Scale.{finite}
 use Rattle.sample.specs.Bytes.{four_bytes, digits_of, float_of, float_at, bytes_of}
@@ -58,6 +51,3 @@ put_back s at x h p =
 
 pub nan_pattern : (n : ℕ) → 0x7f80_0000 < n % 0x8000_0000 → of_bits binary32 n ≡ nan
 nan_pattern n h = is_nan_law (of_bits binary32 n) (sym (nan_bits_is binary32 n) ∙ nan_bits_above binary32 n ∙ lt-ltb 0x7f80_0000 (n % 0x8000_0000) h)
-
-pub no_nan_pattern : (n : ℕ) → n % 0x8000_0000 ≤ 0x7f80_0000 → T (not (nan_bits binary32 n))
-no_nan_pattern n h = rw (nan_bits_above binary32 n, le-ltb 0x7f80_0000 (n % 0x8000_0000) h) tt

@@ -1,15 +1,11 @@
 -- The exponent's field of a bit pattern tells whether its float is finite.
 -- By which idea: `of_bits` reads a pattern by its fields, and gives an infinity or a NaN exactly where the exponent's is all ones.
-use mathlib.Core.Path.{◌≡◌, refl, sym, ap, ◌∙◌}
-use mathlib.Core.Bool.{Bool, true, false, not, cond, false≢true}
-use Prim.Native.Nat.{ℕ, zero, suc, ◌+◌, ◌*◌, ◌/◌, ◌%◌, ◌^◌}
-use native.Mathlib.Omega.{arith}
-use borrow.Author.Tests.{ne_eqb, eqb-true, eqb-false}
-use lib.Dec.{T, eqb, eqb→eq}
-use lib.IntN.{pos}
-use lib.Bits.{bit_and, and_mask}
-use lib.Pow.{field}
-use lib.Ieee.{Float, nan, inf, fin, up, down, Format, binary32, prec, emax, low, odd, hid, ones, top, of_fields, of_bits, to_bits, fits}
+use Rattle.std.proofs.Common.{◌≡◌, refl, sym, ap, ◌∙◌, Bool, true, false, not, cond, ℕ, zero, suc, ◌+◌, ◌*◌, ◌/◌, ◌%◌, ◌^◌, arith, ne_eqb, eqb-true, T, eqb, eqb→eq, pos, bit_and, Float}
+use Rattle.std.proofs.lemmas.Bool.{false≢true, eqb-false}
+use Rattle.std.proofs.lemmas.Nat.{and_mask}
+use Rattle.std.proofs.Math.Pow.{field}
+use Rattle.std.specs.Float.{nan, inf, fin, Format, binary32}
+use Rattle.std.specs.Float.Ieee.{up, down, prec, emax, low, odd, hid, ones, top, of_fields, of_bits, to_bits, fits}
 use lib.Ieee.Bits.{of_bits-to_bits}
 use lib.Ieee.Scale.{finite}
 use Rattle.morph.proofs.Lists.{split}

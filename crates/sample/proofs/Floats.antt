@@ -1,15 +1,10 @@
 -- Laws of single floats: what `x == 0.0` tells, what `plus_zero_of` gives.
 -- By which idea: a finite value m * 2 ^ e equals zero only where m is 0.
-use mathlib.Core.Path.{◌≡◌, refl, sym, ◌∙◌}
-use mathlib.Core.Bool.{Bool, true, false, not, false≢true}
-use Prim.Native.Nat.{ℕ, zero, suc, ◌*◌, ◌^◌, ◌<◌}
-use native.Mathlib.Nat.{zero-mul, one-mul, mul-one, mul-pos, pow-succ'}
-use native.Mathlib.Omega.{arith}
-use borrow.Author.Tests.{eqb-true, eqb-false, eq-eqb, ne_eqb}
-use lib.IntN.{ℤ, pos, negsuc}
-use lib.Dec.{T, eqb, eqb→eq}
-use lib.Pow.{pow_pos}
-use lib.Ieee.{Float, nan, inf, fin, Format, binary32, up, down, level, eq, ne, fits, is_nan, of_bits}
+use Rattle.std.proofs.Common.{◌≡◌, refl, sym, ◌∙◌, Bool, true, false, not, ℕ, zero, suc, ◌*◌, ◌^◌, ◌<◌, zero-mul, one-mul, mul-one, mul-pos, arith, eqb-true, eq-eqb, ne_eqb, ℤ, pos, negsuc, T, eqb, eqb→eq, pow_pos, Float}
+use Rattle.std.proofs.lemmas.Bool.{false≢true, eqb-false}
+use Rattle.std.proofs.Math.Nat.{pow-succ'}
+use Rattle.std.specs.Float.{nan, inf, fin, Format, binary32}
+use Rattle.std.specs.Float.Ieee.{up, down, level, eq, ne, fits, is_nan, of_bits}
 use lib.Ieee.Fits.{up_pos}
 use lib.Ieee.Scale.{finite}
 use Rattle.morph.specs.Rate.{plus_zero_of}

@@ -1,16 +1,13 @@
 -- Rows that a loop goes over from left to right: one that is filled with what it is to hold, and one whose first column that is not accepted is looked for.
 -- By which idea: a row is what stands before the loop's place and what stands from it on, `take i` and `drop i`.
-use mathlib.Core.Path.{◌≡◌, refl, sym, ap, ◌∙◌}
-use mathlib.Core.Bool.{Bool, true, false, cond, not, ◌&&◌, and-true}
-use mathlib.Core.List.{List, [], ◌∷◌, ◌++◌, map, append-nil}
-use Prim.Native.Nat.{ℕ, zero, suc, ◌+◌, ◌≤◌, ◌<◌}
-use native.Mathlib.Numerals.{add-one}
-use native.Mathlib.Omega.{arith}
-use borrow.Author.Tests.{ltb-false, lt-ltb, le-ltb, not-true, not-false}
-use lib.Dec.{T, ltb, leb-suc-suc}
-use lib.ListN.{length, take, drop, get_or, set, length-set, drop_of_length-le}
-use lib.Seq.{take-suc, drop-cons, append_snoc, set_at, get_or_at, take_all, length-take-le}
-use lib.Ieee.{Float, nan, binary32, fits}
+use Rattle.std.proofs.Common.{◌≡◌, refl, sym, ap, ◌∙◌, Bool, true, false, not, ◌&&◌, List, [], ◌∷◌, ◌++◌, map, append-nil, ℕ, zero, suc, ◌+◌, ◌≤◌, ◌<◌, add-one, arith, ltb-false, lt-ltb, le-ltb, T, ltb, length, take, drop, get_or, set, length-set, drop_of_length-le, take-suc, drop-cons, take_all, length-take-le, Float}
+use Rattle.std.proofs.lemmas.Bool.{not-true, not-false}
+use Rattle.std.proofs.lemmas.List.{set_at, get_or_at}
+use Rattle.std.proofs.Math.Bool.{and-true}
+use Rattle.std.proofs.Math.Dec.{leb-suc-suc}
+use Rattle.std.proofs.Math.Seq.{append_snoc}
+use Rattle.std.specs.Float.{nan, binary32}
+use Rattle.std.specs.Float.Ieee.{fits}
 use lib.Ieee.Scale.{finite}
 use Rattle.morph.specs.Lists.{all, Each}
 use Rattle.morph.specs.Rate.{plus_zero_of}
@@ -87,19 +84,6 @@ module _ {A : Type 0} (K : Samples A) where
 
   abbrev pub Searched : List A → ℕ → Type 0
   Searched row i = (i ≤ length row) × (first_bad K row ≡ i + first_bad K (drop i row))
-
-  first_drop : (row : List A) (i : ℕ) → i < length row → first_bad K (drop i row) ≡ cond (K.good (get_or row i K.order.blank)) (suc (first_bad K (drop (suc i) row))) 0
-  first_drop row i h = rw (drop-cons row i K.order.blank h)
-
-  module _ (row : List A) (i : ℕ) (s : Searched row i) where
-    pub search_next : i < length row → K.good (get_or row i K.order.blank) ≡ true → Searched row (i + 1)
-    search_next h e = let k = rw e at (first_drop row i h) in rw add-one (omega arith, omega arith)
-
-    pub search_stop : i < length row → K.good (get_or row i K.order.blank) ≡ false → i ≡ first_bad K row
-    search_stop h e = let k = rw e at (first_drop row i h) in omega arith
-
-    pub search_end : length row ≤ i → i ≡ first_bad K row
-    search_end h = let k = ap (first_bad K) (drop_of_length-le row {i = i} h) in omega arith
 
 -- ---- a row of grey bytes: every byte is accepted, as itself
 

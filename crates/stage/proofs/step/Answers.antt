@@ -1,5 +1,5 @@
 -- `step` meets its contract: past the last step nothing changes; before F steps no row is due; else the fronts are the row.
-use native.Mathlib.Omega.{arith}
+use Rattle.std.proofs.Common.{arith}
 use Rattle.stage.proofs.Stage.{done_step, due_step}
 use Rattle.stage.proofs.step.Goals as goal
 

@@ -1,7 +1,5 @@
 -- The flag is that of the columns passed.
-use mathlib.Core.Path.{◌≡◌}
-use Prim.Native.Nat.{◌≤◌}
-use lib.ListN.{length, take}
+use Rattle.std.proofs.Common.{◌≡◌, ◌≤◌, length, take}
 use Rattle.morph.specs.Lists.{all}
 use Rattle.sample.specs.Rate.{accepted}
 use Rattle.sample.proofs.rate.all_accepted.Given as goal

@@ -1,5 +1,5 @@
 -- The row fills with what each of its values is read as.
-use mathlib.Core.List.{map}
+use Rattle.std.proofs.Common.{map}
 use Rattle.morph.specs.Rate.{plus_zero_of}
 use Rattle.sample.proofs.Rows.{Filling}
 use Rattle.sample.proofs.rate.clean.Given as goal

@@ -1,5 +1,5 @@
 -- A row that is finite has no such column, and any other is searched.
-use mathlib.Core.Path.{sym, ◌∙◌}
+use Rattle.std.proofs.Common.{sym, ◌∙◌}
 use Rattle.sample.specs.Samples.{rates}
 use Rattle.sample.proofs.Rows.{none_first}
 use Rattle.sample.proofs.rate.first_not_finite.Goals as goal

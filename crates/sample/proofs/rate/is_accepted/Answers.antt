@@ -1,8 +1,5 @@
 -- The pattern tells the negative zero.
-use mathlib.Core.Path.{sym, ap, ◌∙◌, subst}
-use mathlib.Core.Bool.{Bool, not, ◌&&◌}
-use Prim.Native.Nat.{ℕ}
-use lib.Dec.{T, eqb}
+use Rattle.std.proofs.Common.{sym, ap, ◌∙◌, subst, Bool, not, ◌&&◌, ℕ, T, eqb}
 use lib.Ieee.Scale.{finite}
 use Rattle.sample.proofs.Fields.{bits_negative}
 use Rattle.sample.proofs.rate.is_accepted.Goals as goal

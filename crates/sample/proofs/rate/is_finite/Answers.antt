@@ -1,8 +1,5 @@
 -- The exponent bits of the float's pattern tell it.
-use mathlib.Core.Path.{sym, ap, ◌∙◌, subst}
-use mathlib.Core.Bool.{not}
-use Prim.Native.Nat.{ℕ}
-use lib.Dec.{T, eqb}
+use Rattle.std.proofs.Common.{sym, ap, ◌∙◌, subst, not, ℕ, T, eqb}
 use Rattle.sample.proofs.Fields.{exponent_bits, bits_finite}
 use Rattle.sample.proofs.rate.is_finite.Goals as goal
 

@@ -1,6 +1,6 @@
 -- The value equals 0.0, or it is no zero.
-use mathlib.Core.Path.{sym, ap, ◌∙◌}
-use lib.Ieee.{eq}
+use Rattle.std.proofs.Common.{sym, ap, ◌∙◌}
+use Rattle.std.specs.Float.Ieee.{eq}
 use Rattle.sample.proofs.Floats.{literal_zero, plus_yes, plus_no}
 use Rattle.sample.proofs.rate.plus_zero.Goals as goal
 

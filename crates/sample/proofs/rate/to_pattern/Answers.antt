@@ -1,7 +1,7 @@
 -- A NaN, and no other value, differs from itself; the number returned for it is that of the library's `to_bits`.
-use mathlib.Core.Path.{sym, ap, subst}
-use lib.Dec.{T}
-use lib.Ieee.{binary32, to_bits}
+use Rattle.std.proofs.Common.{sym, ap, subst, T}
+use Rattle.std.specs.Float.{binary32}
+use Rattle.std.specs.Float.Ieee.{to_bits}
 use lib.Ieee.Compare.{differs_from_itself}
 use Rattle.sample.proofs.Floats.{not_nan}
 use Rattle.sample.proofs.rate.to_pattern.Goals as goal
