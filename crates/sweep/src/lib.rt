@@ -1,33 +1,33 @@
 // Down the columns of a whole picture, in place, of any kind of samples: ahead in one sweep, and then back. The laws are in proofs/.
 #![tactic(auto)]
 
-ghost use Rattle.std.specs.Prelude.{◌≡◌, ◌⊎◌, ◌+◌, ◌*◌, ◌≤◌, ◌<◌, length};
+ghost use Rattle.std.specs.Prelude.{◌≡◌, ◌+◌, ◌*◌, ◌≤◌, ◌<◌, length};
 ghost use Rattle.morph.specs.Lists.{Each};
 ghost use Rattle.morph.specs.Order.{order_of};
 ghost use Rattle.passes.specs.Inner.{Reached, ThenBack};
-ghost use Rattle.sweep.specs.Inner.{Over, Climbed, Ticked, Lowered, Fronted};
+ghost use Rattle.sweep.specs.Inner.{met, Climbed, Ticked, Lowered, Fronted};
 
 use morph::Kind;
 use passes::{Choice, Largest, Smallest, Way};
 
-// A part takes, pixel by pixel, the better of itself and of another part that lies apart from it: rows.
-fn over_of<W: Way, S: Choice>(width: usize, at: usize, from: usize, picture: &mut [S])
-    requires { (at + width ≤ length picture.old) × (from + width ≤ length picture.old) × ((at + width ≤ from) ⊎ (from + width ≤ at)) }
-    ensures { Over S.samples.order.blank (S.pick W.KIND) width at from picture.old picture.new }
+// Rows take, pixel by pixel, the better of themselves and of other rows.
+fn over_of<W: Way, S: Choice>(rows: &mut [S], others: &[S])
+    requires { length rows.old ≡ length others.now }
+    ensures { rows.new ≡ met S.samples.order.blank (S.pick W.KIND) rows.old others.now }
 {
-    for i in 0..width {
-        picture[at + i] = S::better(W::KIND, picture[at + i], picture[from + i]);
+    for i in 0..rows.len() {
+        rows[i] = S::better(W::KIND, rows[i], others[i]);
     }
 }
 
 // The same for a kind that is known only now.
-fn over<S: Choice>(kind: Kind, width: usize, at: usize, from: usize, picture: &mut [S])
-    requires { (at + width ≤ length picture.old) × (from + width ≤ length picture.old) × ((at + width ≤ from) ⊎ (from + width ≤ at)) }
-    ensures { Over S.samples.order.blank (S.pick kind) width at from picture.old picture.new }
+fn over<S: Choice>(kind: Kind, rows: &mut [S], others: &[S])
+    requires { length rows.old ≡ length others.now }
+    ensures { rows.new ≡ met S.samples.order.blank (S.pick kind) rows.old others.now }
 {
     match kind {
-        Kind::Erosion => over_of::<Smallest, S>(width, at, from, picture),
-        Kind::Dilation => over_of::<Largest, S>(width, at, from, picture),
+        Kind::Erosion => over_of::<Smallest, S>(rows, others),
+        Kind::Dilation => over_of::<Largest, S>(rows, others),
     }
 }
 
@@ -52,7 +52,9 @@ fn climb<S: Choice>(
     if rows <= t - r {
         return;
     }
-    over(kind, width, (t - r - s) * width, (t - r) * width, picture);
+    let at = (t - r - s) * width;
+    let (above, below) = picture.split_at_mut((t - r) * width);
+    over(kind, &mut above[at..at + width], &below[..width]);
 }
 
 // All steps of tick t.
@@ -89,7 +91,10 @@ fn lower<S: Choice>(kind: Kind, s: usize, width: usize, rows: usize, picture: &m
     while s < z {
         let k = (z - s).min(s);
         z -= k;
-        over(kind, k * width, z * width, (z - s) * width, picture);
+        let from = (z - s) * width;
+        let wide = k * width;
+        let (above, below) = picture.split_at_mut(z * width);
+        over(kind, &mut below[..wide], &above[from..from + wide]);
     }
 }
 
@@ -100,7 +105,9 @@ fn front<S: Choice>(kind: Kind, s: usize, width: usize, rows: usize, picture: &m
 {
     let end = s.min(rows);
     for z in 1..end {
-        over(kind, width, z * width, (z - 1) * width, picture);
+        let from = (z - 1) * width;
+        let (above, below) = picture.split_at_mut(z * width);
+        over(kind, &mut below[..width], &above[from..]);
     }
 }
 
