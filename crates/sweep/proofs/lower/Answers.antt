@@ -11,17 +11,17 @@ pub loop-z-init : goal.loop-z-init
 loop-z-init g c = lower_start _ _ _ _ _ _ c.requires.0
 
 pub overflow_mul-z : goal.overflow_mul-z
-overflow_mul-z g c = let l = c.loop-z in let a = c.args in let k = c.min-k.result in omega (arith, rows_fit a.width a.rows (l.z - k) k (omega (arith, l.invariant.within)), l.invariant.long)
+overflow_mul-z g c = let l = c.loop-z in let a = c.args in let k = c.min-k.result in omega (arith, rows_fit a.grid.width a.grid.rows (l.z - k) k (omega (arith, l.invariant.within)), l.invariant.long)
 
 pub overflow_add-from : goal.overflow_add-from
-overflow_add-from g c = let l = c.loop-z in let a = c.args in let k = c.min-k.result in omega (arith, rows_fit a.width a.rows ((l.z - k) - a.s) k (omega (arith, l.invariant.within)), l.invariant.long)
+overflow_add-from g c = let l = c.loop-z in let a = c.args in let k = c.min-k.result in omega (arith, rows_fit a.grid.width a.grid.rows ((l.z - k) - a.s) k (omega (arith, l.invariant.within)), l.invariant.long)
 
 pub slice_bounds-over-end : goal.slice_bounds-over-end
 slice_bounds-over-end g c =
     let l = c.loop-z in
     let a = c.args in
     let k = c.min-k.result in
-    let v = rows_fit a.width a.rows (l.z - k) k (omega (arith, l.invariant.within)) in
+    let v = rows_fit a.grid.width a.grid.rows (l.z - k) k (omega (arith, l.invariant.within)) in
     omega (arith, l.invariant.long, c.split_at_mut-above.ensures.back_len)
 
 pub slice_bounds-over-end-in-loop-z : goal.slice_bounds-over-end-in-loop-z
@@ -29,19 +29,19 @@ slice_bounds-over-end-in-loop-z g c =
     let l = c.loop-z in
     let a = c.args in
     let k = c.min-k.result in
-    let v = rows_fit a.width a.rows (l.z - k) k (omega (arith, l.invariant.within)) in
+    let v = rows_fit a.grid.width a.grid.rows (l.z - k) k (omega (arith, l.invariant.within)) in
     rw length-take (omega (arith, l.invariant.long, c.split_at_mut-above.ensures.back_len))
 
 pub slice_bounds-over-end-in-loop-z-2 : goal.slice_bounds-over-end-in-loop-z-2
-slice_bounds-over-end-in-loop-z-2 g c = let l = c.loop-z in let a = c.args in let k = c.min-k.result in omega (arith, rows_fit a.width (l.z - k) ((l.z - k) - a.s) k (omega arith), c.split_at_mut-above.ensures.front_len)
+slice_bounds-over-end-in-loop-z-2 g c = let l = c.loop-z in let a = c.args in let k = c.min-k.result in omega (arith, rows_fit a.grid.width (l.z - k) ((l.z - k) - a.s) k (omega arith), c.split_at_mut-above.ensures.front_len)
 
 pub over-requires : goal.over-requires
 over-requires g c =
     let l = c.loop-z in
     let a = c.args in
     let k = c.min-k.result in
-    let u = rows_fit a.width (l.z - k) ((l.z - k) - a.s) k (omega arith) in
-    let v = rows_fit a.width a.rows (l.z - k) k (omega (arith, l.invariant.within)) in
+    let u = rows_fit a.grid.width (l.z - k) ((l.z - k) - a.s) k (omega arith) in
+    let v = rows_fit a.grid.width a.grid.rows (l.z - k) k (omega (arith, l.invariant.within)) in
     rw (length-take, length-take, length-drop) (omega (arith, l.invariant.long, c.split_at_mut-above.ensures.front_len, c.split_at_mut-above.ensures.back_len))
 
 pub loop-z-smaller : goal.loop-z-smaller
@@ -53,8 +53,8 @@ loop-z-preserved g c =
     let a = c.args in
     let k = c.min-k.result in
     let cut = c.split_at_mut-above in
-    let u = rows_fit a.width (l.z - k) ((l.z - k) - a.s) k (omega arith) in
-    let v = rows_fit a.width a.rows (l.z - k) k (omega (arith, l.invariant.within)) in
+    let u = rows_fit a.grid.width (l.z - k) ((l.z - k) - a.s) k (omega arith) in
+    let v = rows_fit a.grid.width a.grid.rows (l.z - k) k (omega (arith, l.invariant.within)) in
     lower_next _ _ _ _ _ _ l.z l.picture l.invariant k (omega (arith, c.min-k.ensures, c.requires.1)) (omega (arith, c.min-k.ensures)) (omega (arith, c.min-k.ensures)) _ refl _
     (over_above g.S.Sample.samples.order.blank (g.S.Choice.pick a.kind) _ _ _ _ _ cut.ensures.value cut.ensures.front_len _ _ _ (omega arith) (omega (arith, u)) (omega (arith, v, l.invariant.long)) c.over.ensures)
 
