@@ -10,12 +10,10 @@
 //     47             words for the reader follow
 //
 // These numbers are hexadecimal. A plan is its count and 80 numbers.
-ghost use Rattle.std.specs.Prelude.{◌≡◌, ◌≤◌, ◌<◌, length, take};
-
-use script::up_to;
+use script::{number, up_to_mut};
 use std::io::Read;
 
-#[derive(Clone, Copy)]
+#[derive(Clone, Copy, Debug, PartialEq, Eq)]
 pub struct Command {
     pub op: u8,
     pub x: u8,
@@ -27,20 +25,14 @@ pub struct Command {
     pub size: usize,
 }
 
-// The number at a place.
-fn number(bytes: &[u8; 43], at: usize) -> usize
-    requires { at < 36 }
-{
-    script::number(bytes, at)
-}
-
-// The next command; its number is 0 where there is none.
-pub fn read(from: &mut impl Read) -> Command {
+// The next command. There is none behind one whose number is 0.
+pub fn read(from: &mut impl Read) -> Option<Command> {
     let mut bytes = [0u8; 43];
-    if from.read_exact(&mut bytes).is_err() {
-        bytes[0] = 0;
+    from.read_exact(&mut bytes).ok()?;
+    if bytes[0] == 0 {
+        return None;
     }
-    Command {
+    Some(Command {
         op: bytes[0],
         x: bytes[1],
         y: bytes[2],
@@ -49,14 +41,12 @@ pub fn read(from: &mut impl Read) -> Command {
         c: number(&bytes, 19),
         d: number(&bytes, 27),
         size: number(&bytes, 35),
-    }
+    })
 }
 
-// The bytes that follow a command, as many as there is room for. What it ensures of their number spares the caller a proof.
-pub fn follow(from: &mut impl Read, size: usize, room: &mut [u8]) -> usize
-    ensures { (result ≤ length room.new) × (result ≡ length (take result room.new)) }
-{
-    let n = up_to(size, &room[..]);
-    let _ = from.read_exact(&mut room[..n]);
-    up_to(n, &room[..])
+// The bytes that follow a command, as many as there is room for.
+pub fn follow<'a>(from: &mut impl Read, size: usize, room: &'a mut [u8]) -> &'a [u8] {
+    let part = up_to_mut(size, room);
+    let _ = from.read_exact(part);
+    part
 }

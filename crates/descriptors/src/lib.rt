@@ -2,9 +2,9 @@
 // A reader or a writer that is not ready is waited for, as one that blocks would have its caller wait.
 #![tactic(auto)]
 
-ghost use Rattle.std.specs.Prelude.{◌≤◌, length, take, IfOk};
-ghost use Rattle.std.specs.Io.KnownBytes.{Appends, ReadConsumes, WriteAppends};
-ghost use Rattle.descriptors.specs.Filled.{Fills, Brings, BringsSome};
+ghost use Rattle.std.specs.Prelude.{◌≤◌, length, IfOk};
+ghost use Rattle.std.specs.Io.KnownBytes.{ReadConsumes, WriteAppends};
+ghost use Rattle.descriptors.specs.Filled.{Fills, Brings, BringsSome, Writes, WritesSome};
 
 use std::fmt::InlineText;
 use std::io;
@@ -14,11 +14,14 @@ use std::rt::Clock;
 // How often a reader or a writer that is not ready is tried again. A loop has to end: this one does so after a year and more of pauses.
 const PATIENCE: u32 = 4294967295;
 
-// What a part was filled with: so many bytes at its front, fewer than it holds only where the input has ended; or a read failed.
-#[derive(Clone, Copy)]
-pub enum Filled {
-    With(usize),
-    Failed,
+// A read failed. What failed has been said.
+#[derive(Clone, Copy, Debug, PartialEq, Eq)]
+pub struct Unread;
+
+// A write failed, after so many of the bytes had been taken. What failed has been said.
+#[derive(Clone, Copy, Debug, PartialEq, Eq)]
+pub struct Unwritten {
+    pub taken: usize,
 }
 
 // Whether a call that has just failed is to be made again: at once after a signal, after a pause where the reader or the writer is not ready.
@@ -35,15 +38,15 @@ fn is_to_be_tried_again(rt: &impl Clock, error: io::Error) -> bool {
 fn say(rt: &impl Eprint, what: &str, error: io::Error) {
     let told = InlineText::<256>::of(error);
     let text = told.as_str();
-    let words = match text.split_once(" (os error ") {
-        Some((words, _)) => words,
-        None => text,
-    };
+    let words = text
+        .split_once(" (os error ")
+        .map_or(text, |(words, _)| words);
     let _ = eprintln!(rt; "{what}: {words}");
 }
 
-fn say_unread(rt: &impl Eprint, error: io::Error) {
+fn say_unread(rt: &impl Eprint, error: io::Error) -> Unread {
     say(rt, "kelafshir: reading the job", error);
+    Unread
 }
 
 fn say_unwritten(rt: &impl Eprint, error: io::Error) {
@@ -69,36 +72,36 @@ fn read_patiently<H: Clock, R: Read>(rt: &H, from: &mut R, part: &mut [u8]) -> i
 }
 
 // Such a read, which says so where it fails.
-fn read_some<H: Clock + Eprint, R: Read>(rt: &H, from: &mut R, part: &mut [u8]) -> Filled
+fn read_some<H: Clock + Eprint, R: Read>(
+    rt: &H,
+    from: &mut R,
+    part: &mut [u8],
+) -> Result<usize, Unread>
     ensures few { Fills (length part.new) result }
     ensures bytes { BringsSome (R.remaining from.old) (R.remaining from.new) part.new result }
 {
-    match read_patiently(rt, from, part) {
-        Ok(got) => Filled::With(got),
-        Err(error) => {
-            say_unread(rt, error);
-            Filled::Failed
-        }
-    }
+    read_patiently(rt, from, part).map_err(|error| say_unread(rt, error))
 }
 
-// Reads until the part is full or the input ends; says so where a read fails.
-pub fn fill<H: Clock + Eprint, R: Read>(rt: &H, from: &mut R, part: &mut [u8]) -> Filled
+// Reads until the part is full or the input ends, and answers how many bytes stand at its front: fewer than it holds only where the input has ended. Says so where a read fails.
+pub fn fill<H: Clock + Eprint, R: Read>(
+    rt: &H,
+    from: &mut R,
+    part: &mut [u8],
+) -> Result<usize, Unread>
     ensures few { Fills (length part.new) result }
     ensures bytes { Brings (R.remaining from.old) (R.remaining from.new) part.new result }
 {
+    // Not a `for`: each turn goes on by as many bytes as a read brought, and `got` is what is answered.
     let mut got = 0;
     while got < part.len() {
-        let some = read_some(rt, from, &mut part[got..]);
-        let Filled::With(more) = some else {
-            return some;
-        };
+        let more = read_some(rt, from, &mut part[got..])?;
         if more == 0 {
-            return Filled::With(got);
+            return Ok(got);
         }
         got += more;
     }
-    Filled::With(got)
+    Ok(got)
 }
 
 // One write that does not fail for want of room: how many bytes were taken.
@@ -120,35 +123,37 @@ fn write_patiently<H: Clock, W: Write>(rt: &H, to: &mut W, bytes: &[u8]) -> io::
 }
 
 // Such a write, which says so where it fails or takes nothing: then none were taken.
-fn write_some<H: Clock + Eprint, W: Write>(rt: &H, to: &mut W, bytes: &[u8]) -> usize
-    ensures few { result ≤ length bytes.now }
-    ensures bytes { Appends (W.contents to.old) (W.contents to.new) (take result bytes.now) }
+fn write_some<H: Clock + Eprint, W: Write>(rt: &H, to: &mut W, bytes: &[u8]) -> Option<usize>
+    ensures { WritesSome (W.contents to.old) (W.contents to.new) bytes.now result }
 {
     match write_patiently(rt, to, bytes) {
         Ok(0) => {
             say_unwritten(rt, io::Error::from(ErrorKind::WriteZero));
-            0
+            None
         }
-        Ok(taken) => taken,
+        Ok(taken) => Some(taken),
         Err(error) => {
             say_unwritten(rt, error);
-            0
+            None
         }
     }
 }
 
-// Writes all bytes, and answers how many were taken: fewer than all only where a write failed, and then it says so.
-pub fn write_whole<H: Clock + Eprint, W: Write>(rt: &H, to: &mut W, bytes: &[u8]) -> usize
-    ensures few { result ≤ length bytes.now }
-    ensures bytes { Appends (W.contents to.old) (W.contents to.new) (take result bytes.now) }
+// Writes all bytes; or a write failed, which it says, and fewer were taken.
+pub fn write_whole<H: Clock + Eprint, W: Write>(
+    rt: &H,
+    to: &mut W,
+    bytes: &[u8],
+) -> Result<(), Unwritten>
+    ensures { Writes (W.contents to.old) (W.contents to.new) bytes.now result }
 {
+    // Not a `for`: each turn goes on by as many bytes as a write took.
     let mut done = 0;
     while done < bytes.len() {
-        let taken = write_some(rt, to, &bytes[done..]);
-        if taken == 0 {
-            return done;
-        }
+        let Some(taken) = write_some(rt, to, &bytes[done..]) else {
+            return Err(Unwritten { taken: done });
+        };
         done += taken;
     }
-    done
+    Ok(())
 }

@@ -3,6 +3,7 @@
 
 use morph::Kind;
 use plan::{Plan, Stage};
+use std::io;
 
 mod rates; // rates.rt: case 12
 mod starts; // starts.rt: case 11, and what to lend
@@ -21,10 +22,10 @@ fn single(left: u8, right: u8, up: u8, down: u8) -> Plan {
     p
 }
 
-fn main(rt: HostRuntime) {
-    starts::of_extents(&rt);
-    starts::of_sizes(&rt);
-    starts::of_counts(&rt);
-    starts::of_needs(&rt);
-    rates::case_12(&rt);
+fn main(rt: HostRuntime) -> io::Result<()> {
+    starts::of_extents(&rt)?;
+    starts::of_sizes(&rt)?;
+    starts::of_counts(&rt)?;
+    starts::of_needs(&rt)?;
+    rates::case_12(&rt)
 }

@@ -9,7 +9,6 @@ use native.Mathlib.Omega.{arith}
 use borrow.Author.Tests.{eqb-true, eqb-false}
 use lib.Dec.{eqb}
 use lib.ListN.{length, take, drop, get_or, set, length-set}
-use lib.Ieee.{Float}
 use lib.Seq.{take-set-le, get_or-set_same}
 use Rattle.morph.specs.Order.{Order}
 use Rattle.morph.specs.Line.{positioned, standing, queue, Entry, Shown}
@@ -18,18 +17,15 @@ use Rattle.morph.proofs.Ring.{entries_length}
 use Rattle.sample.specs.Samples.{Samples}
 use Rattle.line_judge.specs.Numbers.{line_start_number, line_read_number, line_drain_number, line_read_out_number}
 use Rattle.line_judge.specs.Steps.{State, PixelSaid, LineStart, Broken, ReadNumber, DrainNumber, O, L, LeftBy, Accepts, Answers, Reads, Drains, line_shown, SameLine}
-use Rattle.line_grey.specs.Grey as grey
-use Rattle.line_rate.specs.Rate as rate
-use Rattle.line_grey.specs.declared.Line.{Line}
-use Rattle.line_grey.specs.declared.Answer.{Answer}
-use Rattle.line_grey.specs.declared.Answer.TheVariants.{Pixel, NotYet, Refused}
-use Rattle.line_rate.specs.declared.Line.{Line as RateLine}
-use Rattle.line_rate.specs.declared.Answer.{Answer as RateAnswer}
-use Rattle.line_rate.specs.declared.Answer.TheVariants.{Pixel as RatePixel, NotYet as RateNotYet, Refused as RateRefused}
-use Rattle.line_grey.specs.declared.ReadOut.{ReadOut}
-use Rattle.line_grey.specs.declared.ReadOut.TheVariants.{Found, Refused as NotFound}
-use Rattle.line_rate.specs.declared.ReadOut.{ReadOut as RateReadOut}
-use Rattle.line_rate.specs.declared.ReadOut.TheVariants.{Found as RateFound, Refused as RateNotFound}
+use Rattle.std.specs.Prelude.{Result, Ok, Err}
+use Rattle.morph.specs.declared.refusal.Refusal.{Refusal}
+use Rattle.morph.specs.Refusals.{refusal_number}
+use Rattle.morph.proofs.Exits.{refusal_same}
+use Rattle.queue.specs.declared.Entry.{Entry as QueueEntry}
+use Rattle.line.specs.Line.{line_state, pixel_said, entry_shown}
+use Rattle.line.specs.declared.Line.{Line}
+use Rattle.line.specs.declared.Answer.{Answer}
+use Rattle.line.specs.declared.Answer.TheVariants.{Pixel, NotYet, Refused}
 use Rattle.line_judge.proofs.Numbers.{read_zero}
 
 -- the queue after s steps rests on the first s pixels
@@ -138,74 +134,42 @@ read_out_unique K s place r r' h k = h ∙ sym k
 
 -- ---- the declared types: a line is its state, and an answer is what it says
 
-line_of : State ℕ → Line
-line_of s = record {
-  kind = s.kind;
-  left = s.left;
-  right = s.right;
-  pixels = s.pixels;
-  step = s.step;
-  queue = record { values = s.values; positions = s.positions; start = s.start; count = s.count };
-}
+module _ {A : Type 0} where
+  line_of : State A → Line A
+  line_of s = record {
+    kind = s.kind;
+    left = s.left;
+    right = s.right;
+    pixels = s.pixels;
+    step = s.step;
+    queue = record { values = s.values; positions = s.positions; start = s.start; count = s.count };
+  }
 
-rate_of : State Float → RateLine
-rate_of s = record {
-  kind = s.kind;
-  left = s.left;
-  right = s.right;
-  pixels = s.pixels;
-  step = s.step;
-  queue = record { values = s.values; positions = s.positions; start = s.start; count = s.count };
-}
+  pub line_same : (l m : Line A) → line_state l ≡ line_state m → l ≡ m
+  unfolding line_of
+  line_same l m e = ap line_of e
 
-pub grey_line_law : (l m : Line) → grey.grey_line l ≡ grey.grey_line m → l ≡ m
-unfolding line_of
-grey_line_law l m e = ap line_of e
+  -- one constructor says nothing that another says, and what it holds is told
+  pub answer_same : (a b : Answer A) → pixel_said a ≡ pixel_said b → a ≡ b
+  answer_same (Pixel v p n c) (Pixel w q m d) e =
+      let h : ◌≡◌ {A = Entry A} (record { value = v; position = p }) (record { value = w; position = q }) = cc in
+      cc (ap (λ (x : Entry A). x.value) h, ap (λ (x : Entry A). x.position) h)
+  answer_same (Pixel v p n c) (NotYet d) e = cc
+  answer_same (Pixel v p n c) (Refused m d) e = cc
+  answer_same (NotYet c) (Pixel w q m d) e = cc
+  answer_same (NotYet c) (NotYet d) e = cc
+  answer_same (NotYet c) (Refused m d) e = cc
+  answer_same (Refused n c) (Pixel w q m d) e = cc
+  answer_same (Refused n c) (NotYet d) e = cc
+  answer_same (Refused n c) (Refused m d) e =
+      let h : refusal_number n ≡ refusal_number m = cc in
+      let k : c ≡ d = cc in
+      cc (refusal_same n m h, k)
 
-pub rate_line_law : (l m : RateLine) → rate.rate_line l ≡ rate.rate_line m → l ≡ m
-unfolding rate_of
-rate_line_law l m e = ap rate_of e
-
--- one constructor says nothing that another says, and what it holds is told
-
-pub grey_answer : (a b : Answer) → grey.grey_pixel a ≡ grey.grey_pixel b → a ≡ b
-grey_answer (Pixel v p n c) (Pixel w q m d) e =
-    let h : ◌≡◌ {A = Entry ℕ} (record { value = v; position = p }) (record { value = w; position = q }) = cc in
-    cc (ap (λ (x : Entry ℕ). x.value) h, ap (λ (x : Entry ℕ). x.position) h)
-grey_answer (Pixel v p n c) (NotYet d) e = cc
-grey_answer (Pixel v p n c) (Refused m d) e = cc
-grey_answer (NotYet c) (Pixel w q m d) e = cc
-grey_answer (NotYet c) (NotYet d) e = cc
-grey_answer (NotYet c) (Refused m d) e = cc
-grey_answer (Refused n c) (Pixel w q m d) e = cc
-grey_answer (Refused n c) (NotYet d) e = cc
-grey_answer (Refused n c) (Refused m d) e = cc
-
-pub rate_answer : (a b : RateAnswer) → rate.rate_pixel a ≡ rate.rate_pixel b → a ≡ b
-rate_answer (RatePixel v p n c) (RatePixel w q m d) e =
-    let h : ◌≡◌ {A = Entry Float} (record { value = v; position = p }) (record { value = w; position = q }) = cc in
-    cc (ap (λ (x : Entry Float). x.value) h, ap (λ (x : Entry Float). x.position) h)
-rate_answer (RatePixel v p n c) (RateNotYet d) e = cc
-rate_answer (RatePixel v p n c) (RateRefused m d) e = cc
-rate_answer (RateNotYet c) (RatePixel w q m d) e = cc
-rate_answer (RateNotYet c) (RateNotYet d) e = cc
-rate_answer (RateNotYet c) (RateRefused m d) e = cc
-rate_answer (RateRefused n c) (RatePixel w q m d) e = cc
-rate_answer (RateRefused n c) (RateNotYet d) e = cc
-rate_answer (RateRefused n c) (RateRefused m d) e = cc
-
-pub grey_read_out : (r r' : ReadOut) → grey.grey_line_shown r ≡ grey.grey_line_shown r' → r ≡ r'
-grey_read_out (Found e) (Found f) h =
-    let q : ◌≡◌ {A = Entry ℕ} (record { value = e.value; position = e.position }) (record { value = f.value; position = f.position }) = cc in
-    ap (λ (x : Entry ℕ). Found (record { value = x.value; position = x.position })) q
-grey_read_out (Found e) (NotFound n) h = cc
-grey_read_out (NotFound n) (Found e) h = cc
-grey_read_out (NotFound n) (NotFound m) h = cc
-
-pub rate_read_out : (r r' : RateReadOut) → rate.rate_line_shown r ≡ rate.rate_line_shown r' → r ≡ r'
-rate_read_out (RateFound e) (RateFound f) h =
-    let q : ◌≡◌ {A = Entry Float} (record { value = e.value; position = e.position }) (record { value = f.value; position = f.position }) = cc in
-    ap (λ (x : Entry Float). RateFound (record { value = x.value; position = x.position })) q
-rate_read_out (RateFound e) (RateNotFound n) h = cc
-rate_read_out (RateNotFound n) (RateFound e) h = cc
-rate_read_out (RateNotFound n) (RateNotFound m) h = cc
+  pub entry_same : (r r' : Result (QueueEntry A) Refusal) → entry_shown r ≡ entry_shown r' → r ≡ r'
+  entry_same (Ok e) (Ok f) h =
+      let q : ◌≡◌ {A = Entry A} (record { value = e.value; position = e.position }) (record { value = f.value; position = f.position }) = cc in
+      ap (λ (x : Entry A). Ok (record { value = x.value; position = x.position })) q
+  entry_same (Ok e) (Err n) h = cc
+  entry_same (Err n) (Ok e) h = cc
+  entry_same (Err n) (Err m) h = let k : refusal_number n ≡ refusal_number m = cc in ap Err (refusal_same n m k)

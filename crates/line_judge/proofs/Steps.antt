@@ -8,14 +8,11 @@ use native.Mathlib.Numerals.{add-one}
 use native.Mathlib.Omega.{arith}
 use borrow.Author.Tests.{leb-true, ne_eqb}
 use lib.Dec.{leb}
-use lib.ListN.{length, get_or, set, replicate, length-set}
-use Rattle.morph.specs.declared.Kind.{Kind}
-use Rattle.morph.specs.declared.Kind.TheVariants.{Erosion}
+use lib.ListN.{length, get_or, set, length-set}
 use Rattle.morph.specs.Line.{queue, line_cost, found, refused}
 use Rattle.morph.specs.Ring.{wrap, cell_at}
 use Rattle.morph.proofs.Lists.{split}
 use Rattle.morph.proofs.Line.{cost_drain}
-use Rattle.morph.specs.Order.{kind_of}
 use Rattle.sample.specs.Samples.{Samples}
 use Rattle.queue.specs.Queue.{listed}
 use Rattle.queue.specs.Inner.{goes_of, Roomed}
@@ -132,15 +129,11 @@ module _ {A : Type 0} (K : Samples A) (s : State A) where
       let e' : wrap (length s.values) (s.start + place) ≡ at = rw l (sym e) in
       rw (z, listed_at K.order.blank (length s.values) s.values s.positions s.start s.count place at (record { value = K.order.blank; position = 0 }) p e')
 
--- ---- the start, from the empty queue
+-- ---- the start
 
-module _ {A : Type 0} (K : Samples A) (kind left right pixels number : ℕ) (vs : List A) (ps : List ℕ) (start count : ℕ) (v : vs ≡ replicate 63 K.zero) (p : ps ≡ replicate 63 0) (s : start ≡ 0) (c : count ≡ 0) (e : number ≡ line_start_number kind left right pixels) where
-  pub start_refused : number ≢ 0
-      → LineStart K kind left right pixels number (record { kind = Erosion; left = 0; right = 0; pixels = 0; step = 0; values = vs; positions = ps; start = start; count = count })
-  unfolding first_line
-  start_refused h = record { told = e; refuses = λ _. rw (v, p, s, c); begins = λ z. absurd (h (e ∙ z)) }
+module _ {A : Type 0} (K : Samples A) (kind left right pixels number : ℕ) (s : State A) (e : number ≡ line_start_number kind left right pixels) where
+  pub start_refused : number ≢ 0 → s ≡ first_line K 0 0 0 0 → LineStart K kind left right pixels number s
+  start_refused h z = record { told = e; refuses = λ _. z; begins = λ y. absurd (h (e ∙ y)) }
 
-  pub start_begun : number ≡ 0 → (k : Kind) → k ≡ kind_of kind
-      → LineStart K kind left right pixels 0 (record { kind = k; left = left; right = right; pixels = pixels; step = 0; values = vs; positions = ps; start = start; count = count })
-  unfolding first_line
-  start_begun z k i = record { told = sym z ∙ e; refuses = λ h. absurd (h (sym e ∙ z)); begins = λ _. rw (v, p, s, c, i) }
+  pub start_begun : number ≡ 0 → s ≡ first_line K kind left right pixels → LineStart K kind left right pixels 0 s
+  start_begun z y = record { told = sym z ∙ e; refuses = λ h. absurd (h (sym e ∙ z)); begins = λ _. y }

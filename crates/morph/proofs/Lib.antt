@@ -9,3 +9,4 @@ pub mod Cell
 pub mod Rests
 pub mod Origin
 pub mod Numbers
+pub mod Exits

@@ -1,37 +1,41 @@
 // What a command's head says.
-ghost use Rattle.std.specs.Prelude.{◌<◌};
-
 use picture::{Ending, State};
 
-// Number i of those after the plan: the width, the rows, the step, the cells.
-pub fn number(head: &[u8; 188], i: usize) -> usize
-    requires { i < 13 }
-{
-    script::number(head, i * 8 + 84)
-}
+#[derive(Clone, Copy)]
+pub struct Head(pub [u8; 188]);
 
-// The length of slice i.
-pub fn lent(head: &[u8; 188], i: usize) -> usize
-    requires { i < 9 }
-{
-    number(head, i + 4)
-}
-
-fn ending_of(n: u8) -> Ending {
-    match n {
-        0 => Ending::Fixed,
-        1 => Ending::Open,
-        _ => Ending::Stopped,
+impl Head {
+    // The command's own number.
+    pub fn command(&self) -> u8 {
+        self.0[81]
     }
-}
 
-pub fn state(head: &[u8; 188]) -> State {
-    State {
-        plan: script::record(head),
-        sample: head[82],
-        width: number(head, 0),
-        ending: ending_of(head[83]),
-        rows: number(head, 1),
-        step: number(head, 2),
+    pub fn sample(&self) -> u8 {
+        self.0[82]
+    }
+
+    // Number i of those after the plan: the width, the rows, the step, the cells.
+    pub fn number(&self, i: u8) -> usize {
+        script::number(&self.0, usize::from(i) * 8 + 84)
+    }
+
+    // The length of slice i.
+    pub fn lent(&self, i: u8) -> usize {
+        script::number(&self.0, usize::from(i) * 8 + 116)
+    }
+
+    pub fn state(&self) -> State {
+        State {
+            plan: script::record(&self.0),
+            sample: self.sample(),
+            width: self.number(0),
+            ending: match self.0[83] {
+                0 => Ending::Fixed,
+                1 => Ending::Open,
+                _ => Ending::Stopped,
+            },
+            rows: self.number(1),
+            step: self.number(2),
+        }
     }
 }

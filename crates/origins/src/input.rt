@@ -1,91 +1,52 @@
 // What follows a head: the slices that a call is lent, one after the other.
-ghost use Rattle.std.specs.Prelude.{◌≡◌, ◌≤◌, length, take};
-
-use script::{up_to, up_to_floats, up_to_numbers, up_to_positions};
+use script::up_to_mut;
 use std::io::Read;
 
-// ---- room for them
-
-pub fn no_bytes() -> [u8; 4096]
-    ensures { 4096 ≡ length result }
-{
-    [0; 4096]
+// What a slice is of: each reads a part of the input as it stands there.
+pub trait Piece: Copy {
+    fn fill(rt: &impl Input, part: &mut [Self]);
 }
 
-pub fn no_columns() -> [u16; 4096]
-    ensures { 4096 ≡ length result }
-{
-    [0; 4096]
-}
-
-pub fn no_rows() -> [usize; 4096]
-    ensures { 4096 ≡ length result }
-{
-    [0; 4096]
-}
-
-pub fn no_rates() -> [f32; 4096]
-    ensures { 4096 ≡ length result }
-{
-    [0.0; 4096]
-}
-
-// ---- what stands next in the input
-
-fn next_column(rt: &impl Input) -> u16 {
-    let mut bytes = [0u8; 2];
+// So many bytes that stand next in the input.
+fn next<const N: usize>(rt: &impl Input) -> [u8; N] {
+    let mut bytes = [0; N];
     let _ = rt.reader().read_exact(&mut bytes);
-    script::pair(bytes[0], bytes[1]) as u16
+    bytes
 }
 
-fn next_row(rt: &impl Input) -> usize {
-    let mut bytes = [0u8; 8];
-    let _ = rt.reader().read_exact(&mut bytes);
-    script::number(&bytes, 0)
-}
-
-fn next_rate(rt: &impl Input) -> f32 {
-    let mut bytes = [0u8; 4];
-    let _ = rt.reader().read_exact(&mut bytes);
-    sample::rate::from_bytes(&bytes, 0)
-}
-
-// ---- slices: each comes to the start of its room, as far as there is room, and its length is given. What is ensured of that spares the caller a proof.
-
-pub fn bytes(rt: &impl Input, count: usize, room: &mut [u8]) -> usize
-    ensures { (result ≤ length room.new) × (result ≡ length (take result room.new)) }
-{
-    let n = up_to(count, &room[..]);
-    let _ = rt.reader().read_exact(&mut room[..n]);
-    up_to(n, &room[..])
-}
-
-pub fn columns(rt: &impl Input, count: usize, room: &mut [u16]) -> usize
-    ensures { (result ≤ length room.new) × (result ≡ length (take result room.new)) }
-{
-    let n = up_to_positions(count, &room[..]);
-    for i in 0..n {
-        room[i] = next_column(rt);
+impl Piece for u8 {
+    fn fill(rt: &impl Input, part: &mut [u8]) {
+        let _ = rt.reader().read_exact(part);
     }
-    up_to_positions(n, &room[..])
 }
 
-pub fn rows(rt: &impl Input, count: usize, room: &mut [usize]) -> usize
-    ensures { (result ≤ length room.new) × (result ≡ length (take result room.new)) }
-{
-    let n = up_to_numbers(count, &room[..]);
-    for i in 0..n {
-        room[i] = next_row(rt);
+impl Piece for u16 {
+    fn fill(rt: &impl Input, part: &mut [u16]) {
+        for each in part.iter_mut() {
+            *each = u16::from_le_bytes(next(rt));
+        }
     }
-    up_to_numbers(n, &room[..])
 }
 
-pub fn rates(rt: &impl Input, count: usize, room: &mut [f32]) -> usize
-    ensures { (result ≤ length room.new) × (result ≡ length (take result room.new)) }
-{
-    let n = up_to_floats(count, &room[..]);
-    for i in 0..n {
-        room[i] = next_rate(rt);
+impl Piece for usize {
+    fn fill(rt: &impl Input, part: &mut [usize]) {
+        for each in part.iter_mut() {
+            *each = usize::from_le_bytes(next(rt));
+        }
     }
-    up_to_floats(n, &room[..])
+}
+
+impl Piece for f32 {
+    fn fill(rt: &impl Input, part: &mut [f32]) {
+        for each in part.iter_mut() {
+            *each = sample::rate::from_bytes(&next::<4>(rt), 0);
+        }
+    }
+}
+
+// The next slice. It comes to the start of its room, as far as there is room, and is what is lent.
+pub fn slice<'a, T: Piece>(rt: &impl Input, count: usize, room: &'a mut [T]) -> &'a mut [T] {
+    let part = up_to_mut(count, room);
+    T::fill(rt, part);
+    part
 }

@@ -15,21 +15,22 @@
 // These numbers are hexadecimal.
 #![tactic(auto)]
 
+use head::Head;
+use std::io;
 use std::io::Read;
 
 mod begin; // begin.rt: starts and stops
-mod grey; // grey.rt: steps on grey pictures
 mod head; // head.rt: what a command's head says
 mod input; // input.rt: what follows a head
-mod rate; // rate.rt: steps on pictures of floats
+mod kind; // kind.rt: the two kinds of sample
+mod steps; // steps.rt: steps on pictures of either kind
 mod told; // told.rt: what is told after a call
 
 // A command, by its group.
-fn called(rt: &(impl Print + Input), head: &[u8; 188]) {
-    let group = head[81] / 16;
-    match group {
-        1 => grey::step(rt, head),
-        2 => rate::step(rt, head),
+fn called(rt: &(impl Print + Input), head: &Head) -> io::Result<()> {
+    match head.command() / 16 {
+        1 => steps::grey(rt, head),
+        2 => steps::rate(rt, head),
         3 => begin::begin(rt, head),
         4 => begin::end(rt, head),
         _ => told::words(rt, head),
@@ -37,20 +38,21 @@ fn called(rt: &(impl Print + Input), head: &[u8; 188]) {
 }
 
 // Carries out the next command, and says whether there is one.
-fn one(rt: &(impl Print + Input)) -> bool {
-    let mut head = [0u8; 188];
+fn one(rt: &(impl Print + Input)) -> io::Result<bool> {
+    let mut head = [0; 188];
     if rt.reader().read_exact(&mut head).is_err() {
-        return false;
+        return Ok(false);
     }
-    called(rt, &head);
-    show::text(rt, b"\n");
-    true
+    called(rt, &Head(head))?;
+    println!(rt; "")?;
+    Ok(true)
 }
 
-fn main(rt: HostRuntime) {
+fn main(rt: HostRuntime) -> io::Result<()> {
     for _ in 0..u32::MAX {
-        if !one(&rt) {
-            return;
+        if !one(&rt)? {
+            break;
         }
     }
+    Ok(())
 }

@@ -1,39 +1,22 @@
-// What is told of a call: its name, its answer and the state after it; and words for the reader.
-use crate::{head, input};
-use picture::{State, Stepped};
+// What is told of a call: the state after it; and words for the reader.
+use crate::head::Head;
+use crate::input;
+use picture::State;
+use show::Told;
+use std::{fmt, io};
 
-fn name(rt: &impl Print, which: u8) {
-    match which {
-        0 => show::text(rt, b"row: "),
-        1 => show::text(rt, b"drain: "),
-        2 => show::text(rt, b"origin row: "),
-        _ => show::text(rt, b"origin drain: "),
+// The state with its plan.
+#[derive(Clone, Copy)]
+pub struct Whole(pub State);
+
+impl fmt::Display for Whole {
+    fn fmt<W: fmt::Write>(&self, f: &mut fmt::Formatter<W>) -> fmt::Result {
+        write!(f, "{}{}", Told(self.0), Told(self.0.plan))
     }
 }
 
-// The state with its plan.
-fn state(rt: &impl Print, state: State) {
-    show::state(rt, state);
-    let plan = state.plan;
-    show::plan(rt, plan);
-}
-
-pub fn step(rt: &impl Print, which: u8, s: Stepped) {
-    name(rt, which);
-    let a = s.answer;
-    show::answer(rt, a);
-    state(rt, s.state);
-}
-
-// What a start or a stop gave: its number and a state.
-pub fn number(rt: &impl Print, n: u8, s: State) {
-    show::byte(rt, n);
-    state(rt, s);
-}
-
 // Words for the reader.
-pub fn words(rt: &(impl Print + Input), head: &[u8; 188]) {
-    let mut room = input::no_bytes();
-    let n = input::bytes(rt, head::lent(head, 0), &mut room);
-    show::text(rt, &room[..n]);
+pub fn words(rt: &(impl Print + Input), head: &Head) -> io::Result<()> {
+    let mut room = [0u8; 4096];
+    rt.write_all(input::slice(rt, head.lent(0), &mut room))
 }

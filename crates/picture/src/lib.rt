@@ -1,16 +1,27 @@
 // The picture filter: a picture fed row by row through a plan of 1 to 16 stages, on memory that the caller lends.
 // `start` and `start_numbers` make the state of a picture whose rows are counted and empty the queues; `start_open` and `start_open_numbers` do so for rows that come until `stop` is said.
-// `row` and `drain` of the modules grey and rate take a step; `read_out` shows a queue's entry. A run of one stage that was started by one of the starts named after origins takes its steps by `origin_row`
+// `row` and `drain` take a step, of bytes or of floats as the rows are; `read_out` shows a queue's entry. A run of one stage that was started by one of the starts named after origins takes its steps by `origin_row`
 // and `origin_drain`: these also tell the row and the column that each pixel came from, and are lent a column more for each cell.
-// The state goes in by value and comes back. Lent are the cells, a value and a position each, and the column records, a start and a length each; the cells lent are
+// The state goes in by value and comes back. `Lent` is the memory: the cells, a value and a position each, and the column records, a start and a length each; the cells lent are
 // the shorter of the first two slices, the records the shorter of the other two. A refused call writes nothing.
 #![tactic(auto)]
 
-// promise: picture/specs/Runs.antt `PictureRan` and picture/specs/OpenRuns.antt `OpenRan`, of whole runs
-pub mod grey; // grey.rt: pictures of grey bytes
-// promise: picture/specs/Runs.antt `PictureRan` and picture/specs/OpenRuns.antt `OpenRan`, of whole runs
-pub mod rate; // rate.rt: pictures of floats
-
+// meaning: memory/specs/Lent.antt `given`, `left`
+pub use memory::Lent;
+// promise: picture_state/specs/Step.antt `DrainStep`; of whole runs picture/specs/Runs.antt `PictureRan` and picture/specs/OpenRuns.antt `OpenRan`
+pub use picture_step::drain;
+// promise: picture_state/specs/ReadOut.antt `Shows`, by picture_step/specs/Shown.antt `shown`
+pub use picture_step::read_out;
+// promise: picture_state/specs/Step.antt `RowStep`; of whole runs picture/specs/Runs.antt `PictureRan` and picture/specs/OpenRuns.antt `OpenRan`
+pub use picture_step::row;
+// meaning: picture_origin_step/specs/Lent.antt `given`, `left`
+pub use picture_origin_step::OriginLent;
+// meaning: picture_origin_step/specs/Lent.antt `given_rows`, `left_rows`
+pub use picture_origin_step::OriginRows;
+// promise: picture_origin/specs/Step.antt `OriginDrainStep`
+pub use picture_origin_step::origin_drain;
+// promise: picture_origin/specs/Step.antt `OriginRowStep`
+pub use picture_origin_step::origin_row;
 // meaning: picture_start/specs/Start.antt `PictureStart`
 pub use picture_start::Started;
 // meaning: picture_start/specs/Stop.antt `PictureStop`

@@ -6,14 +6,14 @@ use Prim.Native.Nat.{ℕ, suc, ◌+◌, ◌-◌, ◌*◌, ◌≤◌, ◌<◌, mi
 use native.Mathlib.Nat.{zero-mul, mul-le-mul_right}
 use native.Mathlib.Numerals.{add-one}
 use native.Mathlib.Omega.{arith}
-use borrow.Author.Tests.{eqb-true, ltb-false, leb-false, not-false, eq-eqb, ne_eqb, lt-leb, le-ltb, lt-ltb}
+use borrow.Author.Tests.{eqb-true, ltb-false, leb-false, not-false, eq-eqb, ne_eqb, lt-leb, le-ltb}
 use lib.Dec.{eqb, ltb}
 use lib.ListN.{length, get_or, take, drop, length-take, length-drop}
 use lib.Seq.{get_or-take, take-suc, drop-drop, length-take-le}
 use Rattle.morph.specs.Lists.{Each}
 use Rattle.morph.proofs.Lists.{neither, each_in, in_place}
 use Rattle.morph.specs.Numbers.{given, first_of, outside}
-use Rattle.morph.proofs.Numbers.{first_one, first_skip, first_found, first_zero, given_zero, found, skip, inside}
+use Rattle.morph.proofs.Numbers.{first_one, first_skip, first_zero, given_zero, found, skip, inside}
 use Rattle.plan_record.specs.declared.Stage.{Stage}
 use Rattle.plan_record.specs.declared.Plan.{Plan}
 use Rattle.plan_record.specs.Numbers.{sample_number, size_number}
@@ -77,16 +77,7 @@ module _ (width rows : ℕ) where
   abbrev after_width : List ℕ
   after_width = given 4 (outside 4294967296 rows) ∷ []
 
-  pub read_narrow : (n : ℕ) → n ≡ size_number width 1 → (n ≡ 0 → ⊥) → n ≡ size_in Stopped width rows
-  read_narrow n e h = found (size_number width 1) after_width e h
-
   module _ (z : size_number width 1 ≡ 0) where
-    pub read_none : rows ≡ 0 → 4 ≡ size_in Stopped width rows
-    read_none e = skip (size_number width 1) after_width z (rw e)
-
-    pub read_high : 4294967296 < rows → 4 ≡ size_in Stopped width rows
-    read_high h = skip (size_number width 1) after_width z (rw (ne_eqb rows 0 (λ (e : rows ≡ 0). omega arith), lt-ltb 4294967296 rows h))
-
     pub read_all : (rows ≡ 0 → ⊥) → rows ≤ 4294967296 → 0 ≡ size_in Stopped width rows
     read_all h k = skip (size_number width 1) after_width z (rw (ne_eqb rows 0 h, le-ltb 4294967296 rows k))
 
@@ -135,21 +126,28 @@ module _ (W : ℕ) where
       let e : suc (length ss) * W ≡ W + length ss * W = omega arith in
       rw (sound_more ss s (drop W starts) (drop W lengths), drop-drop (length ss * W) W starts, drop-drop (length ss * W) W lengths, e) (sym (and_assoc (sound_records (size_of r) (take W starts) (take W lengths)) _ _))
 
-  module _ (plan : Plan) (starts lengths : List ℕ) (few : plan.count ≤ 16) (long : length plan.stages ≡ 16) where
-    pub sound_first : true ≡ all_sound W (take 0 plan.stages) starts lengths
+  module _ (ss : List Stage) (starts lengths : List ℕ) where
+    pub sound_first : true ≡ all_sound W [] starts lengths
     unfolding all_sound
     sound_first = refl
 
-    pub sound_next : (i lo : ℕ) (good here : Bool) (P : ℕ) → i < plan.count → lo ≡ i * W → good ≡ all_sound W (take i plan.stages) starts lengths → P ≡ size_of (get_or plan.stages i unused)
-        → here ≡ sound_records P (take (lo + W - lo) (drop lo starts)) (take (lo + W - lo) (drop lo lengths)) → (good && here) ≡ all_sound W (take (i + 1) plan.stages) starts lengths
+    pub sound_next : (i lo : ℕ) (good here : Bool) (P : ℕ) → i < length ss → lo ≡ i * W → good ≡ all_sound W (take i ss) starts lengths → P ≡ size_of (get_or ss i unused)
+        → here ≡ sound_records P (take (lo + W - lo) (drop lo starts)) (take (lo + W - lo) (drop lo lengths)) → (good && here) ≡ all_sound W (take (i + 1) ss) starts lengths
     sound_next i lo good here P l e g p h =
         let m : lo + W - lo ≡ W = omega arith in
-        let n : length (take i plan.stages) * W ≡ lo = rw (length-take-le i plan.stages (omega arith)) (sym e) in
-        rw (add-one i, take-suc plan.stages i unused (omega arith), sound_more (take i plan.stages) (get_or plan.stages i unused) starts lengths, n) (cc (rw (m, p) at h))
+        let n : length (take i ss) * W ≡ lo = rw (length-take-le i ss (omega arith)) (sym e) in
+        rw (add-one i, take-suc ss i unused l, sound_more (take i ss) (get_or ss i unused) starts lengths, n) (cc (rw (m, p) at h))
 
-    -- the records of stage i are there
-    pub records_there : (i lo n : ℕ) → i < plan.count → lo ≡ i * W → records_needed plan W ≤ n → lo + W ≤ n
-    records_there i lo n l e h = omega (arith, mul-le-mul_right W l)
+  -- the records of stage i are there
+  pub records_there : (plan : Plan) (i lo n : ℕ) → i < plan.count → lo ≡ i * W → records_needed plan W ≤ n → lo + W ≤ n
+  records_there plan i lo n l e h = omega (arith, mul-le-mul_right W l)
+
+-- a place among the stages in use
+pub in_use : (plan : Plan) (i : ℕ) → i < length (used plan) → i < plan.count
+in_use plan i h = omega (arith, length-take plan.count plan.stages)
+
+pub used_at : (plan : Plan) (i : ℕ) → i < length (used plan) → Accepted plan → Small (get_or (used plan) i unused)
+used_at plan i h k = rw (get_or-take plan.count plan.stages i unused (in_use plan i h)) (k.small i (in_use plan i h))
 
 -- two parts that are cut alike are as long as each other
 pub cut_long : (lo W : ℕ) (l m : List ℕ) → lo + W ≤ length l → lo + W ≤ length m → length (take (lo + W - lo) (drop lo l)) ≡ length (take (lo + W - lo) (drop lo m))
@@ -181,17 +179,10 @@ module _ (kind : ℕ) (S : State) (cells records : ℕ) (starts lengths : List �
   shared_state n e h = found (state_number S) after_state e h
 
   module _ (a : state_number S ≡ 0) where
-    pub shared_kind : (S.sample ≡ kind → ⊥) → 5 ≡ shared
-    unfolding shared_number
-    shared_kind h = sym (first_skip (state_number S) after_state a ∙ rw (ne_eqb S.sample kind h))
-
     module _ (b : S.sample ≡ kind) where
       past_kind : shared ≡ first_of (memory_number S.plan S.width cells records ∷ records_number S starts lengths ∷ [])
       unfolding shared_number
       past_kind = first_skip (state_number S) after_state a ∙ rw (eq-eqb S.sample kind b)
-
-      pub shared_memory : (n : ℕ) → n ≡ memory_number S.plan S.width cells records → (n ≡ 0 → ⊥) → n ≡ shared
-      shared_memory n e h = e ∙ sym (past_kind ∙ first_found (memory_number S.plan S.width cells records) after_memory (λ z. h (e ∙ z)))
 
       pub shared_records : (r : Bool) → memory_number S.plan S.width cells records ≡ 0 → r ≡ all_sound S.width (used S.plan) starts lengths → given 12 (not r) ≡ shared
       shared_records r m e = sym (past_kind ∙ first_skip (memory_number S.plan S.width cells records) after_memory m ∙ first_one (records_number S starts lengths) ∙ ap (λ g. given 12 (not g)) (sym e))
@@ -272,29 +263,13 @@ module _ (kind : ℕ) (S : State) (values positions : ℕ) (starts lengths : Lis
     abbrev offered : List ℕ
     offered = given 9 read ∷ after_nine
 
-    pub offer_lent : (n : ℕ) → n ≡ lent → (n ≡ 0 → ⊥) → n ≡ offer_number kind S row out values positions starts lengths
-    unfolding offer_number
-    offer_lent n e h = found lent offered e h
-
     offer_past : lent ≡ 0 → first_of offered ≡ offer_number kind S row out values positions starts lengths
     unfolding offer_number
     offer_past z = sym (first_skip lent offered z)
 
     module _ (z : lent ≡ 0) where
-      pub offer_nine : read ≡ true → 9 ≡ offer_number kind S row out values positions starts lengths
-      offer_nine a = simp a at (offer_past z)
-
       module _ (a : read ≡ false) where
-        pub offer_last : past ≡ true → 28 ≡ offer_number kind S row out values positions starts lengths
-        offer_last b = simp (a, b) at (offer_past z)
-
         module _ (b : past ≡ false) where
-          pub offer_row : (row ≡ S.width → ⊥) → 7 ≡ offer_number kind S row out values positions starts lengths
-          offer_row c = simp (a, b, ne_eqb row S.width c) at (offer_past z)
-
-          pub offer_out : row ≡ S.width → (out ≡ S.width → ⊥) → 7 ≡ offer_number kind S row out values positions starts lengths
-          offer_out c d = simp (a, b, eq-eqb row S.width c, ne_eqb out S.width d) at (offer_past z)
-
           pub offer_all : row ≡ S.width → out ≡ S.width → 0 ≡ offer_number kind S row out values positions starts lengths
           offer_all c d = simp (a, b, eq-eqb row S.width c, eq-eqb out S.width d) at (offer_past z)
 
@@ -324,22 +299,12 @@ module _ (kind : ℕ) (S : State) (values positions : ℕ) (starts lengths : Lis
     abbrev asked : List ℕ
     asked = given 10 done ∷ after_ten
 
-    pub drain_lent : (n : ℕ) → n ≡ lent → (n ≡ 0 → ⊥) → n ≡ drain_number kind S out values positions starts lengths
-    unfolding drain_number
-    drain_lent n e h = found lent asked e h
-
     drain_past : lent ≡ 0 → first_of asked ≡ drain_number kind S out values positions starts lengths
     unfolding drain_number
     drain_past z = sym (first_skip lent asked z)
 
     module _ (z : lent ≡ 0) where
-      pub drain_ten : done ≡ true → 10 ≡ drain_number kind S out values positions starts lengths
-      drain_ten a = simp a at (drain_past z)
-
       module _ (a : done ≡ false) where
-        pub drain_out : (out ≡ S.width → ⊥) → 7 ≡ drain_number kind S out values positions starts lengths
-        drain_out b = simp (a, ne_eqb out S.width b) at (drain_past z)
-
         pub drain_all : out ≡ S.width → 0 ≡ drain_number kind S out values positions starts lengths
         drain_all b = simp (a, eq-eqb out S.width b) at (drain_past z)
 

@@ -15,7 +15,7 @@ use Rattle.morph.specs.Plan.{column_queue, plan_queue}
 use Rattle.morph.proofs.Lists.{both, neither}
 use Rattle.morph.proofs.Picture.{stage_length}
 use Rattle.morph.specs.Numbers.{given, first_of}
-use Rattle.morph.proofs.Numbers.{first_one, first_skip, first_found, first_zero, given_zero}
+use Rattle.morph.proofs.Numbers.{first_one, first_skip, first_zero, given_zero}
 use Rattle.sample.specs.Samples.{Samples}
 use Rattle.columns.specs.Inner.{Lent, EntryAt}
 use Rattle.morph.specs.Cell.{read_at}
@@ -42,25 +42,6 @@ module _ (kind : ℕ) (S : State) (stage column values positions : ℕ) (starts 
 
   abbrev placed : ℕ
   placed = placed_number kind S stage column values positions starts lengths
-
-  pub place_lent : (n : ℕ) → n ≡ lent → (n ≡ 0 → ⊥) → n ≡ placed
-  unfolding placed_number
-  place_lent n e h = e ∙ sym (first_found lent named (λ z. h (e ∙ z)))
-
-  place_past : lent ≡ 0 → first_of named ≡ placed
-  unfolding placed_number
-  place_past z = sym (first_skip lent named z)
-
-  module _ (z : lent ≡ 0) where
-    pub place_stage : S.plan.count ≤ stage → 11 ≡ placed
-    place_stage a = simp (le-leb S.plan.count stage a) at (place_past z)
-
-    module _ (a : stage < S.plan.count) where
-      pub place_column : S.width ≤ column → 11 ≡ placed
-      place_column b = simp (lt-leb S.plan.count stage a, le-leb S.width column b) at (place_past z)
-
-      pub place_all : column < S.width → 0 ≡ placed
-      place_all b = simp (lt-leb S.plan.count stage a, lt-leb S.width column b) at (place_past z)
 
   pub place_accepted : placed ≡ 0 → (lent ≡ 0) × (stage < S.plan.count) × (column < S.width)
   unfolding placed_number

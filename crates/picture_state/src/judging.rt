@@ -1,52 +1,54 @@
-// Judging: the number of each call on a state, 0 where nothing is wrong.
+// Judging: whether each call on a state is refused, and why.
 
-ghost use Rattle.std.specs.Prelude.{◌≡◌, true, ◌≤◌, min, length};
+ghost use Rattle.std.specs.Prelude.{◌≡◌, true, ◌≤◌, length};
+ghost use Rattle.morph.specs.Refusals.{said};
 ghost use Rattle.plan_record.specs.Plan.{used, record_number, records_needed};
 ghost use Rattle.memory.specs.Memory.{all_sound};
-ghost use Rattle.picture_state.specs.Numbers.{size_in, is_step_off, is_all_read, is_past_last, has_no_drain, is_not_open, memory_number, state_number, shared_number, offer_number, drain_number};
+ghost use Rattle.picture_state.specs.Numbers.{size_in, is_step_off, is_all_read, is_past_last, has_no_drain, is_not_open, memory_number, state_number, shared_number, lent_number, offer_number, drain_number};
 
 use crate::{Ending, State};
+use morph::Refusal;
 use plan_record::Plan;
 
-// 0, or 6: for the cells and the records that are lent.
-pub fn judge_memory(plan: Plan, width: usize, cells: usize, records: usize) -> u8
+// What of the lent memory a judge looks at: how many values and positions there are, and the column records as they stand.
+#[derive(Clone, Copy)]
+pub struct Lending<'a> {
+    pub values: usize,
+    pub positions: usize,
+    pub starts: &'a [u8],
+    pub lengths: &'a [u8],
+}
+
+// Refused 6: for the cells and the records that are lent.
+#[tactic(auto, unfolding(crate::specs::Numbers::memory_number))]
+pub fn judge_memory(plan: Plan, width: usize, cells: usize, records: usize) -> Result<(), Refusal>
     requires { (plan.count ≤ 16) × (width ≤ 4096) }
-    ensures { result ≡ memory_number plan width cells records }
+    ensures { said result ≡ memory_number plan width cells records }
 {
-    if cells < plan_record::cells(plan, width) {
-        return 6;
+    if cells < plan_record::cells(plan, width) || records < plan_record::records(plan, width) {
+        return Err(Refusal::Memory);
     }
-    if records < plan_record::records(plan, width) {
-        return 6;
-    }
-    0
+    Ok(())
 }
 
 // ---- the state's own fields
 
-// 0, or 4: for the width, and the rows read when the stop was said.
-fn judge_read(width: usize, rows: usize) -> u8
-    ensures { result ≡ size_in Ending.Stopped width rows }
+// Refused 4: for the width, and the rows read when the stop was said.
+fn judge_read(width: usize, rows: usize) -> Result<(), Refusal>
+    ensures { said result ≡ size_in Ending.Stopped width rows }
 {
-    let number = plan_record::judge_size(width, 1);
-    if number != 0 {
-        return number;
+    plan_record::judge_size(width, 1)?;
+    if rows == 0 || 4294967296 < rows {
+        return Err(Refusal::Size);
     }
-    if rows == 0 {
-        return 4;
-    }
-    if 4294967296 < rows {
-        return 4;
-    }
-    0
+    Ok(())
 }
 
-// 0, or 4: for the width, and for the rows where they count.
-fn judge_size(state: State) -> u8
-    ensures { result ≡ size_in state.ending state.width state.rows }
+// Refused 4: for the width, and for the rows where they count.
+fn judge_size(state: State) -> Result<(), Refusal>
+    ensures { said result ≡ size_in state.ending state.width state.rows }
 {
-    let ending = state.ending;
-    match ending {
+    match state.ending {
         Ending::Fixed => plan_record::judge_size(state.width, state.rows),
         Ending::Open => plan_record::judge_size(state.width, 1),
         Ending::Stopped => judge_read(state.width, state.rows),
@@ -58,11 +60,10 @@ fn step_off(state: State, ahead: usize) -> bool
     requires { (is_not_open state.ending ≡ true → state.rows ≤ 4294967296) × (ahead ≤ 496) }
     ensures { result ≡ is_step_off state.ending state.rows ahead state.step }
 {
-    let ending = state.ending;
-    match ending {
+    match state.ending {
         Ending::Fixed => state.rows + ahead < state.step,
         Ending::Open => 4294967296 < state.step,
-        Ending::Stopped => (state.step < state.rows) | (state.rows + ahead < state.step),
+        Ending::Stopped => state.step < state.rows || state.rows + ahead < state.step,
     }
 }
 
@@ -70,32 +71,22 @@ fn step_off(state: State, ahead: usize) -> bool
 pub fn not_open(state: State) -> bool
     ensures { result ≡ is_not_open state.ending }
 {
-    let ending = state.ending;
-    match ending {
-        Ending::Fixed => true,
-        Ending::Open => false,
-        Ending::Stopped => true,
-    }
+    state.ending != Ending::Open
 }
 
-// 0, or 12: for the state's own fields.
-pub fn judge_state(state: State) -> u8
-    ensures { result ≡ state_number state }
+// Refused 12: for the state's own fields.
+#[tactic(auto, unfolding(crate::specs::Numbers::state_number))]
+pub fn judge_state(state: State) -> Result<(), Refusal>
+    ensures { said result ≡ state_number state }
 {
-    let plan = state.plan;
-    if plan_record::judge(plan) != 0 {
-        return 12;
+    if plan_record::judge(state.plan).is_err()
+        || plan_record::judge_sample(state.sample).is_err()
+        || judge_size(state).is_err()
+        || step_off(state, plan_record::look_ahead(state.plan))
+    {
+        return Err(Refusal::State);
     }
-    if plan_record::judge_sample(state.sample) != 0 {
-        return 12;
-    }
-    if judge_size(state) != 0 {
-        return 12;
-    }
-    if step_off(state, plan_record::look_ahead(plan)) {
-        return 12;
-    }
-    0
+    Ok(())
 }
 
 // ---- what every call judges
@@ -105,26 +96,19 @@ fn records_sound<'a>(plan: Plan, width: usize, starts: &'a [u8], lengths: &'a [u
     requires { (record_number plan ≡ 0) × (width ≤ 4096) × (records_needed plan width ≤ length starts.now) × (records_needed plan width ≤ length lengths.now) }
     ensures { result ≡ all_sound width (used plan) starts.now lengths.now }
 {
-    let count = plan.count;
     let mut good = true;
     let mut lo = 0;
-    let mut i = 0;
-    while i < count {
-        let stage = plan.stages[i];
+    for stage in &plan.stages[..plan.count] {
         let hi = lo + width;
-        good = good
-            & columns::sound(
-                plan_record::size_of(stage),
-                &starts[lo..hi],
-                &lengths[lo..hi],
-            );
+        let places = plan_record::size_of(*stage);
+        good &= columns::sound(places, &starts[lo..hi], &lengths[lo..hi]);
         lo = hi;
-        i += 1;
     }
     good
 }
 
-// 0, or what is wrong with the state, its sample kind, the memory or the column records: 12, 5, 6, 12.
+// Refused where something is wrong with the state, its sample kind, the memory or the column records: 12, 5, 6, 12.
+#[tactic(auto, unfolding(crate::specs::Numbers::shared_number))]
 pub fn judge<'a>(
     kind: u8,
     state: State,
@@ -132,33 +116,33 @@ pub fn judge<'a>(
     records: usize,
     starts: &'a [u8],
     lengths: &'a [u8],
-) -> u8
+) -> Result<(), Refusal>
     requires { (records ≤ length starts.now) × (records ≤ length lengths.now) }
-    ensures { result ≡ shared_number kind state cells records starts.now lengths.now }
+    ensures { said result ≡ shared_number kind state cells records starts.now lengths.now }
 {
-    let number = judge_state(state);
-    if number != 0 {
-        return number;
-    }
+    judge_state(state)?;
     if state.sample != kind {
-        return 5;
+        return Err(Refusal::SampleKind);
     }
-    let plan = state.plan;
-    let width = state.width;
-    let number = judge_memory(plan, width, cells, records);
-    if number != 0 {
-        return number;
+    judge_memory(state.plan, state.width, cells, records)?;
+    if !records_sound(state.plan, state.width, starts, lengths) {
+        return Err(Refusal::State);
     }
-    if records_sound(plan, width, starts, lengths) {
-        return 0;
-    }
-    12
+    Ok(())
 }
 
-pub fn shorter(a: usize, b: usize) -> usize
-    ensures { result ≡ min a b }
+// The same with the cells and the records that are lent: the shorter of the values and the positions, and of the starts and the lengths.
+pub fn judge_lent(kind: u8, state: State, lent: Lending<'_>) -> Result<(), Refusal>
+    ensures { said result ≡ lent_number kind state lent.entry.values lent.entry.positions lent.entry.starts.now lent.entry.lengths.now }
 {
-    if a < b { a } else { b }
+    judge(
+        kind,
+        state,
+        lent.values.min(lent.positions),
+        lent.starts.len().min(lent.lengths.len()),
+        lent.starts,
+        lent.lengths,
+    )
 }
 
 // ---- a row and a drain
@@ -167,8 +151,7 @@ pub fn shorter(a: usize, b: usize) -> usize
 fn all_read(state: State) -> bool
     ensures { result ≡ is_all_read state.ending state.rows state.step }
 {
-    let ending = state.ending;
-    match ending {
+    match state.ending {
         Ending::Fixed => state.rows <= state.step,
         Ending::Open => false,
         Ending::Stopped => true,
@@ -179,8 +162,7 @@ fn all_read(state: State) -> bool
 fn past_last(state: State) -> bool
     ensures { result ≡ is_past_last state.ending state.step }
 {
-    let ending = state.ending;
-    match ending {
+    match state.ending {
         Ending::Fixed => false,
         Ending::Open => 4294967296 <= state.step,
         Ending::Stopped => false,
@@ -192,82 +174,48 @@ fn no_drain(state: State, ahead: usize) -> bool
     requires { (is_not_open state.ending ≡ true → state.rows ≤ 4294967296) × (ahead ≤ 496) }
     ensures { result ≡ has_no_drain state.ending state.rows ahead state.step }
 {
-    let ending = state.ending;
-    match ending {
-        Ending::Fixed => (state.step < state.rows) | (state.rows + ahead <= state.step),
+    match state.ending {
+        Ending::Fixed => state.step < state.rows || state.rows + ahead <= state.step,
         Ending::Open => true,
-        Ending::Stopped => (state.step < state.rows) | (state.rows + ahead <= state.step),
+        Ending::Stopped => state.step < state.rows || state.rows + ahead <= state.step,
     }
 }
 
-// The number of a row call, but for 8: a row and an output row of these lengths, and so many values and positions.
-pub fn judge_row<'a>(
+// Whether a row call is refused, but for 8: a row and an output row of these lengths.
+#[tactic(auto, unfolding(crate::specs::Numbers::offer_number))]
+pub fn judge_row(
     kind: u8,
     state: State,
     row: usize,
     out: usize,
-    values: usize,
-    positions: usize,
-    starts: &'a [u8],
-    lengths: &'a [u8],
-) -> u8
-    ensures { result ≡ offer_number kind state row out values positions starts.now lengths.now }
+    lent: Lending<'_>,
+) -> Result<(), Refusal>
+    ensures { said result ≡ offer_number kind state row out lent.entry.values lent.entry.positions lent.entry.starts.now lent.entry.lengths.now }
 {
-    let number = judge(
-        kind,
-        state,
-        shorter(values, positions),
-        shorter(starts.len(), lengths.len()),
-        starts,
-        lengths,
-    );
-    if number != 0 {
-        return number;
-    }
+    judge_lent(kind, state, lent)?;
     if all_read(state) {
-        return 9;
+        return Err(Refusal::AllRead);
     }
     if past_last(state) {
-        return 28;
+        return Err(Refusal::LastNumber);
     }
-    if row != state.width {
-        return 7;
+    if row != state.width || out != state.width {
+        return Err(Refusal::RowLength);
     }
-    if out != state.width {
-        return 7;
-    }
-    0
+    Ok(())
 }
 
-// The number of a drain.
-pub fn judge_drain<'a>(
-    kind: u8,
-    state: State,
-    out: usize,
-    values: usize,
-    positions: usize,
-    starts: &'a [u8],
-    lengths: &'a [u8],
-) -> u8
-    ensures { result ≡ drain_number kind state out values positions starts.now lengths.now }
+// Whether a drain is refused.
+#[tactic(auto, unfolding(crate::specs::Numbers::drain_number))]
+pub fn judge_drain(kind: u8, state: State, out: usize, lent: Lending<'_>) -> Result<(), Refusal>
+    ensures { said result ≡ drain_number kind state out lent.entry.values lent.entry.positions lent.entry.starts.now lent.entry.lengths.now }
 {
-    let number = judge(
-        kind,
-        state,
-        shorter(values, positions),
-        shorter(starts.len(), lengths.len()),
-        starts,
-        lengths,
-    );
-    if number != 0 {
-        return number;
-    }
-    let plan = state.plan;
-    if no_drain(state, plan_record::look_ahead(plan)) {
-        return 10;
+    judge_lent(kind, state, lent)?;
+    if no_drain(state, plan_record::look_ahead(state.plan)) {
+        return Err(Refusal::NoDrain);
     }
     if out != state.width {
-        return 7;
+        return Err(Refusal::RowLength);
     }
-    0
+    Ok(())
 }

@@ -12,7 +12,7 @@ pub mod judging; // judging.rt: which calls are refused
 pub mod place; // place.rt: where a read-out's queue lies, and by how many steps it is read
 
 // How a run ends: after rows that are counted at its start, or where its stop is said, which is still to come or was.
-#[derive(Clone, Copy)]
+#[derive(Clone, Copy, Debug, PartialEq, Eq)]
 pub enum Ending {
     Fixed,
     Open,
@@ -21,7 +21,7 @@ pub enum Ending {
 
 // A run of a plan over a picture: the plan, the sample kind's number, the width, how it ends, the rows, and the steps done.
 // The rows are the count given; 0 while the run is open; and the rows read once it has stopped.
-#[derive(Clone, Copy)]
+#[derive(Clone, Copy, Debug, PartialEq, Eq)]
 pub struct State {
     pub plan: Plan,
     pub sample: u8,
@@ -31,15 +31,16 @@ pub struct State {
     pub step: usize,
 }
 
-// What a step answers.
-#[derive(Clone, Copy)]
+// What a step answers. It is no Result: "a step answers with an enum: a row .., not yet .., or a refusal" (document 01, `RowSaid`).
+#[derive(Clone, Copy, Debug, PartialEq, Eq)]
 pub enum Answer {
     Row { number: usize, comparisons: usize },
     NotYet { comparisons: usize },
     Refused { number: u8, column: usize },
 }
 
-#[derive(Clone, Copy)]
+// A step's answer, and the state after it: a refused step hands the state back as it was given (document 01), so that no Result holds it.
+#[derive(Clone, Copy, Debug, PartialEq, Eq)]
 pub struct Stepped {
     pub answer: Answer,
     pub state: State,
@@ -57,8 +58,7 @@ pub fn height(state: State) -> usize
     requires { state.step ≤ 4294967792 }
     ensures { result ≡ height_of state }
 {
-    let ending = state.ending;
-    match ending {
+    match state.ending {
         Ending::Fixed => state.rows,
         Ending::Open => state.step + 1,
         Ending::Stopped => state.rows,
@@ -70,10 +70,10 @@ pub fn moved(state: State) -> State
     requires { state.step ≤ 4294967792 }
     ensures { result ≡ next_state state }
 {
-    let t = state.step;
-    let mut next = state;
-    next.step = t + 1;
-    next
+    State {
+        step: state.step + 1,
+        ..state
+    }
 }
 
 pub fn came(state: State, number: usize, comparisons: usize) -> Stepped
@@ -81,10 +81,10 @@ pub fn came(state: State, number: usize, comparisons: usize) -> Stepped
 {
     Stepped {
         answer: Answer::Row {
-            number: number,
-            comparisons: comparisons,
+            number,
+            comparisons,
         },
-        state: state,
+        state,
     }
 }
 
@@ -92,10 +92,8 @@ pub fn waits(state: State, comparisons: usize) -> Stepped
     ensures { (row_said_of result.answer ≡ is_not_yet comparisons) × (result.state ≡ state) }
 {
     Stepped {
-        answer: Answer::NotYet {
-            comparisons: comparisons,
-        },
-        state: state,
+        answer: Answer::NotYet { comparisons },
+        state,
     }
 }
 
@@ -103,10 +101,7 @@ pub fn refuses(state: State, number: u8, column: usize) -> Stepped
     ensures { (row_said_of result.answer ≡ refused number column) × (result.state ≡ state) }
 {
     Stepped {
-        answer: Answer::Refused {
-            number: number,
-            column: column,
-        },
-        state: state,
+        answer: Answer::Refused { number, column },
+        state,
     }
 }

@@ -1,49 +1,36 @@
 // Where a read-out's queue lies, and by how many steps it is read.
 
 ghost use Rattle.std.specs.Prelude.{◌≡◌, ◌≤◌, ◌<◌, get_or, take};
+ghost use Rattle.morph.specs.Refusals.{said};
 ghost use Rattle.plan_record.specs.Plan.{unused, size_of, cells_of, total};
 ghost use Rattle.memory.specs.Memory.{stage_steps};
 ghost use Rattle.picture_state.specs.Inner.{Accepted, placed_number};
 
 use crate::State;
-use crate::judging::{judge, shorter};
+use crate::judging::{Lending, judge_lent};
+use morph::Refusal;
 use plan_record::Plan;
 
-// The number of a read-out, but for the queue's place: so many values and positions.
-pub fn judge_place<'a>(
+// Whether a read-out is refused, but for the queue's place.
+#[tactic(auto, unfolding(crate::specs::Inner::placed_number))]
+pub fn judge_place(
     kind: u8,
     state: State,
     stage: usize,
     column: usize,
-    values: usize,
-    positions: usize,
-    starts: &'a [u8],
-    lengths: &'a [u8],
-) -> u8
-    ensures { result ≡ placed_number kind state stage column values positions starts.now lengths.now }
+    lent: Lending<'_>,
+) -> Result<(), Refusal>
+    ensures { said result ≡ placed_number kind state stage column lent.entry.values lent.entry.positions lent.entry.starts.now lent.entry.lengths.now }
 {
-    let number = judge(
-        kind,
-        state,
-        shorter(values, positions),
-        shorter(starts.len(), lengths.len()),
-        starts,
-        lengths,
-    );
-    if number != 0 {
-        return number;
+    judge_lent(kind, state, lent)?;
+    if state.plan.count <= stage || state.width <= column {
+        return Err(Refusal::NotThere);
     }
-    if state.plan.count <= stage {
-        return 11;
-    }
-    if state.width <= column {
-        return 11;
-    }
-    0
+    Ok(())
 }
 
 // Where a stage's cells begin, and the places of its columns.
-#[derive(Clone, Copy)]
+#[derive(Clone, Copy, Debug, PartialEq, Eq)]
 pub struct Part {
     pub cells: usize,
     pub places: usize,
@@ -55,8 +42,10 @@ pub fn part_of(plan: Plan, stage: usize, width: usize) -> Part
     ensures { (result.cells ≡ total (cells_of width) (take stage plan.stages)) × (result.places ≡ size_of (get_or plan.stages stage unused)) }
 {
     let own = plan.stages[stage];
-    let mut before = plan;
-    before.count = stage;
+    let before = Plan {
+        count: stage,
+        ..plan
+    };
     Part {
         cells: plan_record::cells(before, width),
         places: plan_record::size_of(own),
@@ -70,11 +59,10 @@ pub fn own_steps(plan: Plan, stage: usize, rows: usize, t: usize) -> usize
 {
     let own = plan.stages[stage];
     let last = rows + plan_record::below(own);
-    let mut before = plan;
-    before.count = stage;
+    let before = Plan {
+        count: stage,
+        ..plan
+    };
     let ahead = plan_record::look_ahead(before);
-    if t < ahead {
-        return 0;
-    }
-    shorter(t - ahead, last)
+    t.saturating_sub(ahead).min(last)
 }

@@ -37,20 +37,21 @@ fn plan_from(stages: &[[u8; 5]]) -> Result<Plan, Refusal>
     Ok(plan)
 }
 
-// The plan of the first `count` stages.
-fn plan_of_first(count: usize, bytes: &[u8; 80]) -> Result<Plan, Refusal>
+// The plan that a count and five bytes a stage say; bytes after the last stage's are not looked at. Refused 1; then stage by stage 2, 3.
+pub fn read_plan(count: u8, bytes: &[u8; 80]) -> Result<Plan, Refusal>
     ensures { reading_as result ≡ plan_read count bytes.now }
 {
-    judge_count(count)?;
+    let n = usize::from(count);
+    judge_count(n)?;
     let (stages, _) = bytes.as_chunks::<5>();
-    plan_from(&stages[..count])
+    plan_from(&stages[..n])
 }
 
-// The plan that a count and five bytes a stage say; bytes after the last stage's are not looked at. Refused 1; then stage by stage 2, 3.
+// The same as a record.
 pub fn read(count: u8, bytes: &[u8; 80]) -> Reading
     ensures { result ≡ plan_read count bytes.now }
 {
-    Reading::from(plan_of_first(usize::from(count), bytes))
+    Reading::from(read_plan(count, bytes))
 }
 
 // The plan that stages which stand apart say. Refused 1, of how many there are; then stage by stage 2, 3.

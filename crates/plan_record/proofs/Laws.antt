@@ -1,17 +1,9 @@
 -- Laws of the plan records: a stage more, the stages in use, sums over them, and what an accepted plan has.
-use mathlib.Core.Path.{◌≡◌, refl, sym, ap, ◌∙◌}
-use mathlib.Core.List.{List, [], ◌∷◌, ◌++◌, append_assoc, append-nil}
-use Prim.Native.Nat.{ℕ, zero, suc, ◌+◌, ◌-◌, ◌*◌, ◌≤◌, ◌<◌}
-use native.Mathlib.Nat.{not-suc-le-zero, mul-le-mul_right, mul-le-mul_left}
-use native.Mathlib.Numerals.{add-one}
-use native.Mathlib.Omega.{arith}
-use borrow.Author.Tests.{eq-eqb, ne_eqb}
-use lib.ListN.{length, get_or, take, set, replicate, length-append}
-use lib.Seq.{set-append_seam, take-append_seam, take-suc, length-take-le}
+use Rattle.std.proofs.Common.{Result, Ok, Err, ◌≡◌, refl, sym, ap, ◌∙◌, List, [], ◌∷◌, ◌++◌, append_assoc, append-nil, ℕ, zero, suc, ◌+◌, ◌-◌, ◌*◌, ◌≤◌, ◌<◌, not-suc-le-zero, mul-le-mul_right, mul-le-mul_left, add-one, arith, eq-eqb, ne_eqb, length, get_or, take, set, replicate, length-append, take-suc, length-take-le}
+use Rattle.std.proofs.Math.Seq.{set-append_seam, take-append_seam}
+use Rattle.std.specs.Result.{IsErrAnd}
 use Rattle.morph.specs.Lists.{tabulate}
 use Rattle.morph.proofs.Lists.{length_tabulate, tabulate_snoc}
-use Rattle.std.specs.Prelude.{Result, Ok, Err}
-use Rattle.std.specs.Result.{IsErrAnd}
 use Rattle.morph.specs.declared.refusal.Refusal.{Refusal}
 use Rattle.morph.specs.Refusals.{refusal_number}
 use Rattle.morph.specs.Numbers.{first_of}
@@ -20,7 +12,7 @@ use Rattle.plan_record.specs.declared.Stage.{Stage}
 use Rattle.plan_record.specs.declared.Plan.{Plan}
 use Rattle.plan_record.specs.declared.Reading.{Reading}
 use Rattle.plan_record.specs.declared.Need.{Need}
-use Rattle.plan_record.specs.Plan.{unused, plan_of, used, total, reading_of, cells_needed, records_needed, plan_ahead, count_number, needs_number, needs_of, stage_out_of, stage_number, stages_from, stages_number, plan_number, plan_read, stages_given, given_number, plan_given, sequence_stages, alternating_stages}
+use Rattle.plan_record.specs.Plan.{unused, plan_of, used, total, reading_of, cells_needed, records_needed, plan_ahead, count_number, needs_number, needs_of, sequence_stages, alternating_stages}
 use Rattle.plan_record.specs.Inner.{added, added_all, reading_as, need_as}
 use Rattle.plan_record.proofs.Exits.{refused_some}
 

@@ -1,12 +1,7 @@
 -- What the records mean to the definitions of a picture: the named plans are morph's, the look-ahead is morph's, and an accepted plan is one
 -- that is judged 0.
-use mathlib.Core.Path.{◌≡◌, refl, sym, ap, ◌∙◌}
-use mathlib.Core.List.{List, [], ◌∷◌, ◌++◌, map, append_assoc}
-use Prim.Native.Nat.{ℕ, zero, suc, ◌-◌, ◌*◌, ◌≤◌, ◌<◌}
-use native.Mathlib.Omega.{arith}
-use borrow.Author.Tests.{le-ltb, eq-eqb, ne_eqb}
-use lib.ListN.{length, get_or, replicate, get_or-append}
-use lib.Seq.{get_or-take, length-take-le}
+use Rattle.std.proofs.Common.{◌≡◌, refl, sym, ap, ◌∙◌, List, [], ◌∷◌, ◌++◌, map, append_assoc, ℕ, zero, suc, ◌-◌, ◌*◌, ◌≤◌, ◌<◌, arith, le-ltb, eq-eqb, ne_eqb, length, get_or, replicate, get_or-take, length-take-le}
+use Rattle.std.proofs.Math.ListN.{get_or-append}
 use Rattle.morph.specs.declared.Kind.{Kind}
 use Rattle.morph.specs.declared.Kind.TheVariants.{Erosion, Dilation}
 use Rattle.morph.specs.Order.{Order}

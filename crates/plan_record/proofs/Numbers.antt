@@ -1,6 +1,5 @@
 -- What an accepted size is.
-use mathlib.Core.Path.{◌≡◌}
-use Prim.Native.Nat.{ℕ, ◌≤◌, ◌<◌}
+use Rattle.std.proofs.Common.{◌≡◌, ℕ, ◌≤◌, ◌<◌}
 use Rattle.morph.specs.Numbers.{outside}
 use Rattle.morph.proofs.Lists.{neither}
 use Rattle.morph.proofs.Numbers.{given_zero, inside}

@@ -6,7 +6,6 @@ ghost use Rattle.std.specs.Fd.{file_raw_fd};
 ghost use Rattle.ports.specs.Ports.{Latest, Due, Receives, Gave};
 ghost use Rattle.ports.specs.Streams.{descriptor_of, descriptor_to};
 
-use descriptors::Filled;
 use std::fs::File;
 use std::io;
 use std::io::{Read, Stdin, Stdout};
@@ -90,32 +89,25 @@ impl Output {
 // What went through: how many bytes came, whether the input has ended behind them, and how many were given to be written. The fields are seen in this crate
 // alone, so that nothing but a read brings bytes or ends the input, and nothing but a write gives any. Counts can be copied: so the total of both is lent to
 // every read and write, which moves it on and asks that its counts add up to it: older counts are refused.
-#[derive(Clone, Copy)]
+#[derive(Clone, Copy, Debug, PartialEq, Eq)]
 pub struct Moved {
     read: usize,
     ended: bool,
     given: usize,
 }
 
-// A read or a write that failed, what was moved before it, and how many bytes of the write were taken all the same. The fields are seen in this crate alone, so that nothing
-// else fails.
-#[derive(Clone, Copy)]
+// A read or a write that failed, what was moved before it, and how many bytes of the write were taken all the same: nothing more can be told, and a job that cannot be read has not
+// ended early. The fields are seen in this crate alone, so that nothing else fails.
+#[derive(Clone, Copy, Debug, PartialEq, Eq)]
 pub struct Loss {
     moved: Moved,
     taken: usize,
 }
 
-// What was to be moved went through; or a read or a write failed, and nothing more can be told: a job that cannot be read has not ended early.
-#[derive(Clone, Copy)]
-pub enum Went {
-    Through(Moved),
-    Lost(Loss),
-}
-
-// What a read comes to, and how many bytes it brought.
-#[derive(Clone, Copy)]
+// What a read comes to that did not fail: what was moved with it, and how many bytes it brought.
+#[derive(Clone, Copy, Debug, PartialEq, Eq)]
 pub struct Received {
-    pub went: Went,
+    pub moved: Moved,
     pub got: usize,
 }
 
@@ -129,6 +121,15 @@ pub fn nothing() -> Moved
     }
 }
 
+fn lose(moved: Moved, taken: usize) -> Loss
+    ensures { result ≡ record { moved = moved; taken = taken } }
+{
+    Loss {
+        moved: moved,
+        taken: taken,
+    }
+}
+
 // Reads until the part is full or the input ends; after its end nothing is read. A read that fails loses the run, and what came of the part before it is not counted.
 pub fn receive<H: Clock + Eprint>(
     rt: &H,
@@ -136,36 +137,26 @@ pub fn receive<H: Clock + Eprint>(
     before: Moved,
     part: &mut [u8],
     total: &mut usize,
-) -> Received
+) -> Result<Received, Loss>
     requires { Latest before total.old }
-    ensures { Receives before (length part.new) total.new result.got result.went }
+    ensures { Receives before (length part.new) total.new result }
 {
     if before.ended {
-        return Received {
-            went: Went::Through(before),
-            got: 0,
-        };
-    }
-    let filled = descriptors::fill(rt, &mut from.source, part);
-    let Filled::With(got) = filled else {
-        let loss = Loss {
+        return Ok(Received {
             moved: before,
-            taken: 0,
-        };
-        return Received {
-            went: Went::Lost(loss),
             got: 0,
-        };
-    };
-    *total = *total + got;
-    Received {
-        went: Went::Through(Moved {
+        });
+    }
+    let got = descriptors::fill(rt, &mut from.source, part).map_err(|_| lose(before, 0))?;
+    *total += got;
+    Ok(Received {
+        moved: Moved {
             read: before.read + got,
             ended: got < part.len(),
             given: before.given,
-        }),
+        },
         got: got,
-    }
+    })
 }
 
 // Gives the front of a frame to be written; where nothing is put the system is not called. What is given has to be what is due: the next bytes of the answer, for input whose
@@ -179,23 +170,16 @@ pub fn give<H: Clock + Eprint>(
     frame: &[u8; 16385],
     put: usize,
     total: &mut usize,
-) -> Went
+) -> Result<Moved, Loss>
     requires { (put ≤ 16385) × Latest before total.old × Due before hand.now frame.now put }
     ensures { Gave before put total.new result }
 {
-    let all: &[u8] = frame;
-    let taken = descriptors::write_whole(rt, &mut to.stdout, &all[..put]);
-    if taken == put {
-        *total = *total + taken;
-        return Went::Through(Moved {
-            read: before.read,
-            ended: before.ended,
-            given: before.given + taken,
-        });
-    }
-    let loss = Loss {
-        moved: before,
-        taken: taken,
-    };
-    Went::Lost(loss)
+    let whole = descriptors::write_whole(rt, &mut to.stdout, &frame[..put]);
+    whole.map_err(|lost| lose(before, lost.taken))?;
+    *total += put;
+    Ok(Moved {
+        read: before.read,
+        ended: before.ended,
+        given: before.given + put,
+    })
 }

@@ -10,6 +10,8 @@ use native.Mathlib.Omega.{arith}
 use lib.Dec.{ltb}
 use lib.ListN.{length, take, drop, length-append, length-drop, take-append-drop}
 use lib.Seq.{length-take-le, take-add, take_at, drop_at}
+use Rattle.std.proofs.Common.{Ok, Err, IsErrAnd}
+use Rattle.std.specs.declared.result.Result.{Result}
 use Rattle.morph.proofs.Lists.{split}
 use Rattle.plan_record.specs.Plan.{plan_ahead}
 use Rattle.picture_state.specs.declared.State.{State}
@@ -27,11 +29,9 @@ use Rattle.turns.proofs.Phases.{row_few}
 use Rattle.program.specs.declared.Hand.{Hand}
 use Rattle.ports.specs.declared.Moved.{Moved}
 use Rattle.ports.specs.declared.Loss.{Loss}
-use Rattle.ports.specs.declared.Went.{Went}
-use Rattle.ports.specs.declared.Went.TheVariants.{Through, Lost}
 use Rattle.program.specs.Ran.{ProgramRan}
-use Rattle.ports.specs.Ports.{Latest, Due, Gave}
-use Rattle.program.specs.Inner.{Settled, Fetched, Fetches}
+use Rattle.ports.specs.Ports.{Latest, Due}
+use Rattle.program.specs.Inner.{Settled, Fetched}
 
 -- ---- what is wanted
 
@@ -61,10 +61,10 @@ wants_few {m} {L} s o = wants_at m.phase m.wants m.state L s.f o s.means
 -- ---- what is lost
 
 -- a loss lies within what was moved: as many bytes read, the same end, and no more bytes taken than were given
-record Within (l : Loss) (m : Moved) : Type 0 where
-  read : l.moved.read ≡ m.read
-  ended : l.moved.ended ≡ m.ended
-  few : l.moved.given + l.taken ≤ m.given
+pub record Within (l : Loss) (m : Moved) : Type 0 where
+  pub read : l.moved.read ≡ m.read
+  pub ended : l.moved.ended ≡ m.ended
+  pub few : l.moved.given + l.taken ≤ m.given
 
 -- ---- the counts
 
@@ -159,11 +159,10 @@ module _ {hand : List ℕ} {L : MachineMemory} {m : Machine} {moved : Moved} (r 
       }
 
   -- a read or a write failed: what was taken is no more than a beginning of the answer
-  runs_lost : (total : ℕ) {w : Went} {l : Loss} → w ≡ Lost l → Within l moved → ProgramRan w × Settled w total
-  runs_lost total {w} {l} q e =
+  pub runs_lost : (total : ℕ) {l : Loss} → Within l moved → ProgramRan (Err l) × Settled (Err l) total
+  runs_lost total {l} e =
       let c = r.given in
-      let k = e.few in
-      rw q (
+      let k = e.few in (
         record {
           came = r.came;
           read = e.read ∙ r.read;
@@ -175,7 +174,7 @@ module _ {hand : List ℕ} {L : MachineMemory} {m : Machine} {moved : Moved} (r 
       )
 
   -- at the end what was given is the answer
-  pub runs_last : is_over m.phase ≡ true → ProgramRan (Through moved)
+  pub runs_last : is_over m.phase ≡ true → ProgramRan (Ok moved)
   runs_last e = record {
     came = r.came;
     read = r.read;
@@ -183,26 +182,21 @@ module _ {hand : List ℕ} {L : MachineMemory} {m : Machine} {moved : Moved} (r 
         r.given ∙ sym (ap length (r.told rest s ∙ ap (λ l. r.out ++ l) (over_nothing m.phase m.wants m.state L r.f e r.means (hand ++ rest)) ∙ append-nil r.out));
   }
 
--- what a write that did not fail counts, and what one that failed leaves
-pub given_all : (before : Moved) {m : Moved} (put total : ℕ) {w : Went} → w ≡ Through m → Gave before put total w
-    → (m ≡ record { read = before.read; ended = before.ended; given = before.given + put }) × (total ≡ m.read + m.given)
-given_all before put total q h = rw q at h
+-- what is told of a loss, of the answer that hands it on
+pub told_lost : (r : Result Moved Loss) {l : Loss} (total : ℕ) → IsErrAnd r (λ e. e ≡ l) → ProgramRan (Err l) × Settled (Err l) total → ProgramRan r × Settled r total
+told_lost (Ok m) total h p = absurd h
+told_lost (Err e) total h p = rw h p
 
-given_lost : (before : Moved) {l : Loss} (put total : ℕ) {w : Went} → w ≡ Lost l → Gave before put total w → Within l (record { read = before.read; ended = before.ended; given = before.given + put })
-given_lost before {l} put total q h =
-    let e : (l.moved ≡ before) × (l.taken < put) = rw q at h in
+-- what a write that failed leaves
+given_lost : (before : Moved) {l : Loss} (put : ℕ) → (l.moved ≡ before) × (l.taken < put) → Within l (record { read = before.read; ended = before.ended; given = before.given + put })
+given_lost before {l} put e =
     let g = ap (λ m. m.given) e.0 in
     let k = e.1 in
     record { read = ap (λ m. m.read) e.0; ended = ap (λ m. m.ended) e.0; few = omega arith }
 
 -- the same of a read
-pub fetched_had : (bytes bytes' : List ℕ) (hand : Hand) (wants total have : ℕ) {w : Went} {m : Moved} → w ≡ Through m → Fetches bytes bytes' hand wants total have w
-    → Fetched bytes bytes' hand wants total (record { moved = m; have = have })
-fetched_had bytes bytes' hand wants total have q h = rw q at h
-
-fetched_lost : (bytes bytes' : List ℕ) (hand : Hand) (wants total have : ℕ) {w : Went} {l : Loss} → w ≡ Lost l → Fetches bytes bytes' hand wants total have w → Within l hand.moved
-fetched_lost bytes bytes' hand wants total have {w} {l} q h =
-    let e : (l.moved ≡ hand.moved) × (l.taken ≡ 0) = rw q at h in
+fetched_lost : (hand : Hand) {l : Loss} → (l.moved ≡ hand.moved) × (l.taken ≡ 0) → Within l hand.moved
+fetched_lost hand {l} e =
     let g = ap (λ m. m.given) e.0 in
     let k = e.1 in
     record { read = ap (λ m. m.read) e.0; ended = ap (λ m. m.ended) e.0; few = omega arith }
@@ -226,9 +220,9 @@ going_first bytes total L m moved none room e q =
     record { all = omega arith; runs = runs_first L m moved room e q; there = omega arith; read_few = rw l (omega arith); given_few = rw l (omega arith) }
 
 -- a read failed
-pub going_lost : {bytes : List ℕ} {hand : Hand} {total : ℕ} {L : MachineMemory} {m : Machine} → Going bytes hand total L m → (bytes' : List ℕ) (total' have : ℕ) {w : Went} {l : Loss} → w ≡ Lost l
-    → Fetches bytes bytes' hand m.wants total' have w → ProgramRan w × Settled w total'
-going_lost {bytes} {hand} {total} {L} {m} g bytes' total' have q f = runs_lost g.runs total' q (fetched_lost bytes bytes' hand m.wants total' have q f)
+pub going_lost : {bytes : List ℕ} {hand : Hand} {total : ℕ} {L : MachineMemory} {m : Machine} → Going bytes hand total L m → (total' : ℕ) {l : Loss} → (l.moved ≡ hand.moved) × (l.taken ≡ 0)
+    → ProgramRan (Err l) × Settled (Err l) total'
+going_lost {bytes} {hand} g total' e = runs_lost g.runs total' (fetched_lost hand e)
 
 -- the counts that are at hand are the latest
 pub going_latest : {bytes : List ℕ} {hand : Hand} {total : ℕ} {L : MachineMemory} {m : Machine} → Going bytes hand total L m → Latest hand.moved total
@@ -272,10 +266,10 @@ module _ {bytes bytes' : List ℕ} {hand next : Hand} {wants total total' : ℕ}
     turned_due short = let n = hand_long in runs_due runs_fetch frame t (λ (s : length (take next.have bytes') < m.wants). short (omega arith))
 
     -- the write of what the turn puts failed
-    pub turned_lost : (next.have < m.wants → next.moved.ended ≡ true) → (total'' : ℕ) {w : Went} {l : Loss} → w ≡ Lost l → Gave next.moved r.put total'' w → ProgramRan w × Settled w total''
-    turned_lost short total'' q h =
+    pub turned_lost : (next.have < m.wants → next.moved.ended ≡ true) → (total'' : ℕ) {l : Loss} → (l.moved ≡ next.moved) × (l.taken < r.put) → ProgramRan (Err l) × Settled (Err l) total''
+    turned_lost short total'' e =
         let n = hand_long in
-        runs_lost (runs_turn runs_fetch t (λ (s : length (take next.have bytes') < m.wants). short (omega arith)) refl) total'' q (given_lost next.moved r.put total'' q h)
+        runs_lost (runs_turn runs_fetch t (λ (s : length (take next.have bytes') < m.wants). short (omega arith)) refl) total'' (given_lost next.moved r.put e)
 
     -- as many bytes were fetched as are wanted, or all there are; a turn was taken, its bytes were given, and the bytes that it left are kept
     pub going_next : {bytes'' : List ℕ} {moved : Moved} {total'' left : ℕ} → (next.have < m.wants → next.moved.ended ≡ true) → length bytes' ≡ 16384 → length frame ≡ 16385 → length bytes'' ≡ length bytes'

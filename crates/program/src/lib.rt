@@ -9,20 +9,13 @@ ghost use Rattle.program.specs.Ran.{ProgramRan};
 ghost use Rattle.ports.specs.Ports.{Latest, Due, Gave};
 ghost use Rattle.program.specs.Inner.{Fetches, Settled};
 
-pub use ports::{Input, Loss, Moved, Output, Went, input_of, standard_input, standard_output};
+pub use ports::{Input, Loss, Moved, Output, input_of, standard_input, standard_output};
 use std::rt::Clock;
 
 // The bytes at hand, at the front of a buffer: how many there are, and what was moved so far.
 #[derive(Clone, Copy)]
 struct Hand {
     moved: Moved,
-    have: usize,
-}
-
-// What fetching comes to: how it went, and how many bytes are at hand then.
-#[derive(Clone, Copy)]
-struct Brought {
-    went: Went,
     have: usize,
 }
 
@@ -34,24 +27,19 @@ fn fetch<H: Clock + Eprint>(
     hand: Hand,
     wants: usize,
     total: &mut usize,
-) -> Brought
+) -> Result<Hand, Loss>
     requires { (hand.have ≤ length bytes.old) × (wants ≤ length bytes.old) × Latest hand.moved total.old }
-    ensures { Fetches bytes.old bytes.new hand wants total.new result.have result.went }
+    ensures { Fetches bytes.old bytes.new hand wants total.new result }
 {
     let have = hand.have;
-    let before = hand.moved;
     if wants <= have {
-        return Brought {
-            went: Went::Through(before),
-            have: have,
-        };
+        return Ok(hand);
     }
-    let came = ports::receive(rt, from, before, &mut bytes[have..wants], total);
-    let went = came.went;
-    Brought {
-        went: went,
+    let came = ports::receive(rt, from, hand.moved, &mut bytes[have..wants], total)?;
+    Ok(Hand {
+        moved: came.moved,
         have: have + came.got,
-    }
+    })
 }
 
 // Gives what a turn put, which has to be due, and counts it on from what was moved so far.
@@ -63,7 +51,7 @@ fn send<H: Clock + Eprint>(
     frame: &[u8; 16385],
     put: usize,
     total: &mut usize,
-) -> Went
+) -> Result<Moved, Loss>
     requires { (put ≤ 16385) × Latest before total.old × Due before bytes.now frame.now put }
     ensures { Gave before put total.new result }
 {
@@ -75,13 +63,8 @@ fn keep(bytes: &mut [u8], used: usize, have: usize) -> usize
     requires { (used ≤ have) × (have ≤ length bytes.old) }
     ensures { (result ≡ have - used) × (take result bytes.new ≡ drop used (take have bytes.old)) }
 {
-    let left = have - used;
-    let mut i = 0;
-    while i < left {
-        bytes[i] = bytes[used + i];
-        i += 1;
-    }
-    left
+    bytes.copy_within(used..have, 0);
+    have - used
 }
 
 // Turn after turn, until the machine is over, or a read or a write fails. What is lent behind the frame is the turn's: two rows to work with, and the memory of the stages.
@@ -99,7 +82,7 @@ fn go<H: Clock + Eprint>(
     starts: &mut [u8],
     lengths: &mut [u8],
     total: &mut usize,
-) -> Went
+) -> Result<Moved, Loss>
     requires { (total.old ≡ 0) × (length bytes.old ≡ 16384) × (length frame.old ≡ 16385) × (4096 ≤ length row.old) × (4096 ≤ length came.old) × MemoryRoom (machine_memory greys.old rates.old positions.old starts.old lengths.old) }
     ensures { ProgramRan result × Settled result total.new }
 {
@@ -109,11 +92,7 @@ fn go<H: Clock + Eprint>(
         have: 0,
     };
     while turns::is_on(machine) {
-        let fetched = fetch(rt, from, bytes, hand, machine.wants, total);
-        let went = fetched.went;
-        let Went::Through(before) = went else {
-            return went;
-        };
+        let fetched = fetch(rt, from, bytes, hand, machine.wants, total)?;
         let have = fetched.have;
         let turned = turn::turn(
             machine,
@@ -127,10 +106,15 @@ fn go<H: Clock + Eprint>(
             starts,
             lengths,
         );
-        let gone = send(rt, to, before, &bytes[..have], frame, turned.put, total);
-        let Went::Through(moved) = gone else {
-            return gone;
-        };
+        let moved = send(
+            rt,
+            to,
+            fetched.moved,
+            &bytes[..have],
+            frame,
+            turned.put,
+            total,
+        )?;
         let left = keep(bytes, turned.used, have);
         hand = Hand {
             moved: moved,
@@ -138,23 +122,22 @@ fn go<H: Clock + Eprint>(
         };
         machine = turned.machine;
     }
-    let moved = hand.moved;
-    Went::Through(moved)
+    Ok(hand.moved)
 }
 
 // Runs the job that is read from the input, and gives its answer to the output. Its memory is local: some 100 KB.
-pub fn run<H: Clock + Eprint>(rt: &H, mut from: Input, mut to: Output) -> Went
+pub fn run<H: Clock + Eprint>(rt: &H, mut from: Input, mut to: Output) -> Result<Moved, Loss>
     ensures { ProgramRan result }
 {
-    let mut bytes = at_hand();
-    let mut frame = frame();
-    let mut row = floats();
-    let mut came = floats();
-    let mut greys = cells();
-    let mut rates = floats();
-    let mut positions = positions();
-    let mut starts = cells();
-    let mut lengths = cells();
+    let mut bytes = [0; 16384]; // a row of 4,096 floats, the most that a machine wants at hand
+    let mut frame = [0; 16385]; // a marker and such a row
+    let mut row = [0.0; 4096];
+    let mut came = [0.0; 4096];
+    let mut greys = [0; 4096];
+    let mut rates = [0.0; 4096];
+    let mut positions = [0; 4096];
+    let mut starts = [0; 4096];
+    let mut lengths = [0; 4096];
     let mut total = 0;
     go(
         rt,
@@ -171,38 +154,4 @@ pub fn run<H: Clock + Eprint>(rt: &H, mut from: Input, mut to: Output) -> Went
         &mut lengths,
         &mut total,
     )
-}
-
-// ---- memory
-
-// A row of 4,096 floats, the most that a machine wants at hand.
-fn at_hand() -> [u8; 16384]
-    ensures { 16384 ≡ length result }
-{
-    [0; 16384]
-}
-
-// A marker and such a row.
-fn frame() -> [u8; 16385]
-    ensures { 16385 ≡ length result }
-{
-    [0; 16385]
-}
-
-fn floats() -> [f32; 4096]
-    ensures { 4096 ≡ length result }
-{
-    [0.0; 4096]
-}
-
-fn positions() -> [u8; 4096]
-    ensures { 4096 ≡ length result }
-{
-    [0; 4096]
-}
-
-fn cells() -> [u8; 4096]
-    ensures { 4096 ≡ length result }
-{
-    [0; 4096]
 }

@@ -1,12 +1,6 @@
 -- The queue's step in lent cells, which keep remainders, from what the code finds on the way.
-use mathlib.Core.Path.{◌≡◌, refl, sym, ap, ◌∙◌}
-use mathlib.Core.List.{List, [], ◌∷◌, ◌++◌}
-use mathlib.Core.Logic.{◌≢◌}
-use Prim.Native.Nat.{ℕ, suc, ◌+◌, ◌-◌, ◌%◌, ◌≤◌, ◌<◌, min}
-use native.Mathlib.Omega.{arith}
-use borrow.Author.Tests.{leb-true, leb-false, eqb-true, eqb-false, ne_eqb}
-use lib.Dec.{leb, eqb}
-use lib.ListN.{length, drop, get_or, set, length-set}
+use Rattle.std.proofs.Common.{◌≡◌, refl, sym, ap, ◌∙◌, List, [], ◌∷◌, ◌++◌, ◌≢◌, ℕ, suc, ◌+◌, ◌-◌, ◌%◌, ◌≤◌, ◌<◌, min, arith, leb-true, leb-false, eqb-true, ne_eqb, leb, eqb, length, drop, get_or, set, length-set}
+use Rattle.std.proofs.lemmas.Bool.{eqb-false}
 use Rattle.morph.specs.Line.{Entry}
 use Rattle.morph.specs.Inner.{popped, step_cost, cells_go, cells_roomed, cells_stepped}
 use Rattle.morph.specs.Ring.{wrap, entries}

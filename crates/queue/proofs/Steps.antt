@@ -1,9 +1,5 @@
 -- A step with the code's own comparison, over a line of accepted pixels: the queue of a run goes to the next, at document 01's comparisons.
-use mathlib.Core.Path.{◌≡◌, sym, ◌∙◌}
-use mathlib.Core.Bool.{true}
-use mathlib.Core.List.{List}
-use Prim.Native.Nat.{ℕ, suc, ◌<◌}
-use lib.ListN.{length, get_or}
+use Rattle.std.proofs.Common.{◌≡◌, sym, ◌∙◌, true, List, ℕ, suc, ◌<◌, length, get_or}
 use Rattle.morph.specs.declared.Kind.{Kind}
 use Rattle.morph.specs.Order.{Order, order_of}
 use Rattle.morph.specs.Lists.{Each}

@@ -3,6 +3,8 @@
 
 use picture::State;
 use picture::grey::ReadOut;
+use show::{Row, Told};
+use std::io;
 
 // A run over a picture of grey bytes, and its output row.
 #[derive(Clone, Copy)]
@@ -30,251 +32,211 @@ fn three() -> [u8; 80] {
     n
 }
 
-fn begin(rt: &impl Print, name: &[u8], sample: u8, cells: usize) -> Greys {
+fn begin(rt: &impl Print, name: &str, sample: u8, cells: usize) -> io::Result<Greys> {
     let numbers = three();
     let mut starts = [0u8; 9];
     let mut lengths = [0u8; 9];
     let s = picture::start_numbers(3, &numbers, sample, 3, 3, cells, &mut starts, &mut lengths);
-    show::started(rt, name, s);
-    let state = s.state;
-    Greys {
-        state: state,
+    show::started(rt, name, s)?;
+    Ok(Greys {
+        state: s.state,
         out: [255; 3],
         values: [0; 21],
         positions: [0; 21],
         starts: starts,
         lengths: lengths,
-    }
+    })
 }
 
-fn bytes(rt: &impl Print, row: [u8; 3]) {
-    show::text(rt, b" ");
-    show::byte(rt, row[0]);
-    show::text(rt, b" ");
-    show::byte(rt, row[1]);
-    show::text(rt, b" ");
-    show::byte(rt, row[2]);
-}
-
-// Shows a place of a queue, and says whether it is there.
-fn place(rt: &impl Print, r: Greys, stage: usize, column: usize, place: usize) -> bool {
-    let values = r.values;
-    let positions = r.positions;
-    let starts = r.starts;
-    let lengths = r.lengths;
-    let state = r.state;
-    let shown = picture::grey::read_out(
-        state, stage, column, place, &values, &positions, &starts, &lengths,
-    );
-    match shown {
-        ReadOut::Found(e) => {
-            show::text(rt, b" ");
-            show::byte(rt, e.value);
-            show::text(rt, b"@");
-            show::number(rt, e.position);
-            true
-        }
-        ReadOut::Refused(number) => {
-            show::text(rt, b" -");
-            show::byte(rt, number);
-            false
-        }
-    }
-}
-
-// The places of a queue from the oldest on, up to the first that is not there.
-fn places(rt: &impl Print, r: Greys, stage: usize) {
-    if place(rt, r, stage, 1, 0) {
-        if place(rt, r, stage, 1, 1) {
-            if place(rt, r, stage, 1, 2) {
-                place(rt, r, stage, 1, 3);
+impl Greys {
+    // Shows a place of a queue, and says whether it is there.
+    fn place(
+        &self,
+        rt: &impl Print,
+        stage: usize,
+        column: usize,
+        place: usize,
+    ) -> io::Result<bool> {
+        let shown = picture::grey::read_out(
+            self.state,
+            stage,
+            column,
+            place,
+            &self.values,
+            &self.positions,
+            &self.starts,
+            &self.lengths,
+        );
+        match shown {
+            ReadOut::Found(e) => {
+                print!(rt; " {}@{}", e.value, e.position)?;
+                Ok(true)
+            }
+            ReadOut::Refused(number) => {
+                print!(rt; " -{number}")?;
+                Ok(false)
             }
         }
     }
-}
 
-// The output row, and the queues of column 1.
-fn after(rt: &impl Print, r: Greys) {
-    show::text(rt, b"; out");
-    let out = r.out;
-    bytes(rt, out);
-    show::text(rt, b"; queues");
-    places(rt, r, 0);
-    show::text(rt, b",");
-    places(rt, r, 1);
-    show::text(rt, b",");
-    places(rt, r, 2);
-    show::text(rt, b"\n");
-}
+    // The places of a queue of column 1 from the oldest on, up to the first that is not there.
+    fn places(&self, rt: &impl Print, stage: usize) -> io::Result<()> {
+        for place in 0..4 {
+            if !self.place(rt, stage, 1, place)? {
+                break;
+            }
+        }
+        Ok(())
+    }
 
-fn offer(rt: &impl Print, r: Greys, row: &[u8]) -> Greys {
-    let mut out = r.out;
-    let mut values = r.values;
-    let mut positions = r.positions;
-    let mut starts = r.starts;
-    let mut lengths = r.lengths;
-    let state = r.state;
-    let s = picture::grey::row(
-        state,
-        row,
-        &mut out,
-        &mut values,
-        &mut positions,
-        &mut starts,
-        &mut lengths,
-    );
-    let a = s.answer;
-    show::answer(rt, a);
-    let state = s.state;
-    let next = Greys {
-        state: state,
-        out: out,
-        values: values,
-        positions: positions,
-        starts: starts,
-        lengths: lengths,
-    };
-    after(rt, next);
-    next
-}
+    // The output row, and the queues of column 1.
+    fn after(&self, rt: &impl Print) -> io::Result<()> {
+        print!(rt; "; out{}; queues", Row(&self.out))?;
+        self.places(rt, 0)?;
+        print!(rt; ",")?;
+        self.places(rt, 1)?;
+        print!(rt; ",")?;
+        self.places(rt, 2)?;
+        println!(rt; "")
+    }
 
-fn read(rt: &impl Print, r: Greys, row: [u8; 3]) -> Greys {
-    show::text(rt, b"grey picture, row");
-    bytes(rt, row);
-    show::text(rt, b": ");
-    offer(rt, r, &row)
-}
+    fn offer(&mut self, rt: &impl Print, row: &[u8]) -> io::Result<()> {
+        let s = picture::grey::row(
+            self.state,
+            row,
+            &mut self.out,
+            &mut self.values,
+            &mut self.positions,
+            &mut self.starts,
+            &mut self.lengths,
+        );
+        self.state = s.state;
+        print!(rt; "{}", Told(s.answer))?;
+        self.after(rt)
+    }
 
-fn read_short(rt: &impl Print, r: Greys) -> Greys {
-    show::text(rt, b"grey picture, a row of 2: ");
-    let row = [7u8, 2];
-    offer(rt, r, &row)
-}
+    fn read(&mut self, rt: &impl Print, row: [u8; 3]) -> io::Result<()> {
+        print!(rt; "grey picture, row{}: ", Row(&row))?;
+        self.offer(rt, &row)
+    }
 
-fn drain(rt: &impl Print, r: Greys) -> Greys {
-    let mut out = r.out;
-    let mut values = r.values;
-    let mut positions = r.positions;
-    let mut starts = r.starts;
-    let mut lengths = r.lengths;
-    let state = r.state;
-    show::text(rt, b"grey picture, drain: ");
-    let s = picture::grey::drain(
-        state,
-        &mut out,
-        &mut values,
-        &mut positions,
-        &mut starts,
-        &mut lengths,
-    );
-    let a = s.answer;
-    show::answer(rt, a);
-    let state = s.state;
-    let next = Greys {
-        state: state,
-        out: out,
-        values: values,
-        positions: positions,
-        starts: starts,
-        lengths: lengths,
-    };
-    after(rt, next);
-    next
-}
+    fn read_short(&mut self, rt: &impl Print) -> io::Result<()> {
+        print!(rt; "grey picture, a row of 2: ")?;
+        self.offer(rt, &[7, 2])
+    }
 
-// The same step on a cell less.
-fn too_few(rt: &impl Print, r: Greys) {
-    let row = [7u8, 2, 9];
-    let mut out = r.out;
-    let mut values = [0u8; 20];
-    let mut positions = r.positions;
-    let mut starts = r.starts;
-    let mut lengths = r.lengths;
-    let state = r.state;
-    show::text(rt, b"grey picture, a row on 20 cells: ");
-    let s = picture::grey::row(
-        state,
-        &row,
-        &mut out,
-        &mut values,
-        &mut positions,
-        &mut starts,
-        &mut lengths,
-    );
-    let a = s.answer;
-    show::answer(rt, a);
-    show::text(rt, b"\n");
-}
+    fn drain(&mut self, rt: &impl Print) -> io::Result<()> {
+        print!(rt; "grey picture, drain: ")?;
+        let s = picture::grey::drain(
+            self.state,
+            &mut self.out,
+            &mut self.values,
+            &mut self.positions,
+            &mut self.starts,
+            &mut self.lengths,
+        );
+        self.state = s.state;
+        print!(rt; "{}", Told(s.answer))?;
+        self.after(rt)
+    }
 
-// Names of a stage, a column and a place that are not there.
-fn nowhere(rt: &impl Print, r: Greys) {
-    show::text(rt, b"grey picture, stage 3, column 3, place 3:");
-    place(rt, r, 3, 0, 0);
-    place(rt, r, 0, 3, 0);
-    place(rt, r, 0, 0, 3);
-    show::text(rt, b"\n");
+    // A step on a cell less; the run stays.
+    fn too_few(&self, rt: &impl Print) -> io::Result<()> {
+        let mut r = *self;
+        let mut values = [0u8; 20];
+        print!(rt; "grey picture, a row on 20 cells: ")?;
+        let s = picture::grey::row(
+            r.state,
+            &[7, 2, 9],
+            &mut r.out,
+            &mut values,
+            &mut r.positions,
+            &mut r.starts,
+            &mut r.lengths,
+        );
+        println!(rt; "{}", Told(s.answer))
+    }
+
+    // Names of a stage, a column and a place that are not there.
+    fn nowhere(&self, rt: &impl Print) -> io::Result<()> {
+        print!(rt; "grey picture, stage 3, column 3, place 3:")?;
+        self.place(rt, 3, 0, 0)?;
+        self.place(rt, 0, 3, 0)?;
+        self.place(rt, 0, 0, 3)?;
+        println!(rt; "")
+    }
+
+    // The picture without calls out of turn.
+    fn in_turn(&mut self, rt: &impl Print) -> io::Result<()> {
+        for row in [[7, 2, 9], [8, 0, 6], [3, 5, 1]] {
+            self.read(rt, row)?;
+        }
+        for _ in 0..3 {
+            self.drain(rt)?;
+        }
+        Ok(())
+    }
 }
 
 // A picture of 3 rows through the plan, with calls out of turn between them.
-fn three_stages(rt: &impl Print) {
-    begin(rt, b"three stages on 20 cells", 0, 20);
-    let r0 = begin(rt, b"three stages on 21 cells", 0, 21);
-    too_few(rt, r0);
-    let r1 = drain(rt, read_short(rt, read(rt, r0, [7, 2, 9])));
-    let r2 = read(rt, r1, [8, 0, 6]);
-    let r3 = drain(rt, r2);
-    let r4 = read(rt, r3, [3, 5, 1]);
-    let r5 = read_short(rt, read(rt, r4, [3, 5, 1]));
-    let r6 = drain(rt, drain(rt, drain(rt, r5)));
-    nowhere(rt, drain(rt, read(rt, r6, [3, 5, 1])));
+fn three_stages(rt: &impl Print) -> io::Result<()> {
+    begin(rt, "three stages on 20 cells", 0, 20)?;
+    let mut r = begin(rt, "three stages on 21 cells", 0, 21)?;
+    r.too_few(rt)?;
+    r.read(rt, [7, 2, 9])?;
+    r.read_short(rt)?;
+    r.drain(rt)?;
+    r.read(rt, [8, 0, 6])?;
+    r.drain(rt)?;
+    r.read(rt, [3, 5, 1])?;
+    r.read(rt, [3, 5, 1])?;
+    r.read_short(rt)?;
+    for _ in 0..3 {
+        r.drain(rt)?;
+    }
+    r.read(rt, [3, 5, 1])?;
+    r.drain(rt)?;
+    r.nowhere(rt)
 }
 
 // A state of floats on the grey calls, and a state that was refused at its start.
-fn other_states(rt: &impl Print) {
-    let f = begin(rt, b"three stages of floats", 1, 21);
-    drain(rt, read(rt, f, [1, 2, 3]));
-    let n = begin(rt, b"sample kind 2", 2, 21);
-    drain(rt, read(rt, n, [1, 2, 3]));
-}
-
-// The run with another start of stage 0's column 1, which has 2 places.
-fn started_at(r: Greys, start: u8) -> Greys {
-    let mut next = r;
-    next.starts[1] = start;
-    next
-}
-
-// The run with another length of stage 1's column 1, whose window is 3.
-fn long(r: Greys, length: u8) -> Greys {
-    let mut next = r;
-    next.lengths[4] = length;
-    next
-}
-
-// The same picture without calls out of turn.
-fn in_turn(rt: &impl Print, r: Greys) {
-    let r3 = read(rt, read(rt, read(rt, r, [7, 2, 9]), [8, 0, 6]), [3, 5, 1]);
-    drain(rt, drain(rt, drain(rt, r3)));
+fn other_states(rt: &impl Print) -> io::Result<()> {
+    let mut floats = begin(rt, "three stages of floats", 1, 21)?;
+    floats.read(rt, [1, 2, 3])?;
+    floats.drain(rt)?;
+    let mut none = begin(rt, "sample kind 2", 2, 21)?;
+    none.read(rt, [1, 2, 3])?;
+    none.drain(rt)
 }
 
 // Records of a state as it is handed out. Document 01 gives 12 where "a queue's start is not below its places, or its length over its window (c+d+1 for both in a column ..)":
 // here 2 and 4, and not 1 and 3. The order of a step is "12 for the column records, then 9 or 10", so a drain before all rows are read is refused 12 with the first and 10
 // with the second. "Every refusal returns .. the state as given, and writes nothing": what the refused calls hand back, with a start that is let in, gives the rows and
 // queues of the picture above. Stage 1 reads no row in the plan's first step, so its queue of length 3 stays the three cells that were lent.
-fn records(rt: &impl Print) {
-    let r = begin(rt, b"records of empty queues", 0, 21);
-    show::text(rt, b"start 2 of 2 places\n");
-    let s = drain(rt, read(rt, started_at(r, 2), [7, 2, 9]));
-    show::text(rt, b"start 1 of 2 places\n");
-    in_turn(rt, drain(rt, started_at(s, 1)));
-    show::text(rt, b"length 4 in a window of 3\n");
-    let l = drain(rt, read(rt, long(r, 4), [7, 2, 9]));
-    show::text(rt, b"length 3 in a window of 3\n");
-    read(rt, drain(rt, long(l, 3)), [7, 2, 9]);
+fn records(rt: &impl Print) -> io::Result<()> {
+    let empty = begin(rt, "records of empty queues", 0, 21)?;
+    println!(rt; "start 2 of 2 places")?;
+    let mut r = empty;
+    r.starts[1] = 2; // of stage 0's column 1, which has 2 places
+    r.read(rt, [7, 2, 9])?;
+    r.drain(rt)?;
+    println!(rt; "start 1 of 2 places")?;
+    r.starts[1] = 1;
+    r.drain(rt)?;
+    r.in_turn(rt)?;
+    println!(rt; "length 4 in a window of 3")?;
+    let mut r = empty;
+    r.lengths[4] = 4; // of stage 1's column 1, whose window is 3
+    r.read(rt, [7, 2, 9])?;
+    r.drain(rt)?;
+    println!(rt; "length 3 in a window of 3")?;
+    r.lengths[4] = 3;
+    r.drain(rt)?;
+    r.read(rt, [7, 2, 9])
 }
 
-fn main(rt: HostRuntime) {
-    three_stages(&rt);
-    other_states(&rt);
-    records(&rt);
+fn main(rt: HostRuntime) -> io::Result<()> {
+    three_stages(&rt)?;
+    other_states(&rt)?;
+    records(&rt)
 }

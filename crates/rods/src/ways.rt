@@ -1,61 +1,63 @@
 // The two ways to ask, and what is told of a call.
+use show::Row;
+use std::{fmt, io};
 use worn::{Begun, Question, Worn};
+
+// The rows of a call: of the closed picture, and of the input.
+pub type Pair = (&'static [u8], &'static [u8]);
 
 // A rod that is asked about: the question that the calls gave, and the one that the calls from C gave.
 #[derive(Clone, Copy)]
 pub struct Rod {
-    pub own: Question,
-    pub from_c: Question,
+    own: Question,
+    from_c: Question,
 }
 
 // ---- what is told
 
 // A question's extents, width by rows, limit, row and sum.
-fn question(rt: &impl Print, q: Question) {
-    show::text(rt, b"; ");
-    show::byte(rt, q.left);
-    show::text(rt, b" ");
-    show::byte(rt, q.right);
-    show::text(rt, b" ");
-    show::byte(rt, q.up);
-    show::text(rt, b" ");
-    show::byte(rt, q.down);
-    show::text(rt, b", ");
-    show::number(rt, q.width);
-    show::text(rt, b" by ");
-    show::number(rt, q.rows);
-    show::text(rt, b", limit ");
-    show::number(rt, q.limit as usize);
-    show::text(rt, b", row ");
-    show::number(rt, q.row);
-    show::text(rt, b", sum ");
-    show::number(rt, q.sum as usize);
+#[derive(Clone, Copy)]
+struct Asked(Question);
+
+impl fmt::Display for Asked {
+    fn fmt<W: fmt::Write>(&self, f: &mut fmt::Formatter<W>) -> fmt::Result {
+        let q = self.0;
+        write!(f, "; {} {} {} {}", q.left, q.right, q.up, q.down)?;
+        write!(f, ", {} by {}, limit {}", q.width, q.rows, q.limit)?;
+        write!(f, ", row {}, sum {}", q.row, q.sum)
+    }
 }
 
-fn said(rt: &impl Print, answer: Worn) {
-    match answer {
-        Worn::Yes => show::text(rt, b"yes"),
-        Worn::No => show::text(rt, b"no"),
-        Worn::NotYet => show::text(rt, b"not yet"),
-        Worn::Refused(number) => {
-            show::text(rt, b"refused ");
-            show::byte(rt, number);
+// What a pair comes to.
+#[derive(Clone, Copy)]
+struct Said(Worn);
+
+impl fmt::Display for Said {
+    fn fmt<W: fmt::Write>(&self, f: &mut fmt::Formatter<W>) -> fmt::Result {
+        match self.0 {
+            Worn::Yes => write!(f, "yes"),
+            Worn::No => write!(f, "no"),
+            Worn::NotYet => write!(f, "not yet"),
+            Worn::Refused(number) => write!(f, "refused {number}"),
         }
+    }
+}
+
+// What a start gives.
+#[derive(Clone, Copy)]
+struct Started(Begun);
+
+impl fmt::Display for Started {
+    fn fmt<W: fmt::Write>(&self, f: &mut fmt::Formatter<W>) -> fmt::Result {
+        write!(f, "{}{}", self.0.number, Asked(self.0.question))
     }
 }
 
 // ---- the calls
 
-fn started(rt: &impl Print, words: &[u8], begun: Begun) {
-    show::text(rt, words);
-    show::byte(rt, begun.number);
-    let q = begun.question;
-    question(rt, q);
-}
-
 pub fn start(
     rt: &impl Print,
-    name: &[u8],
+    name: &str,
     left: u8,
     right: u8,
     up: u8,
@@ -63,66 +65,66 @@ pub fn start(
     width: usize,
     rows: usize,
     limit: u64,
-) -> Rod {
-    show::text(rt, name);
+) -> io::Result<Rod> {
     let begun = worn::start(left, right, up, down, width, rows, limit);
-    started(rt, b": ", begun);
     let linked = firmware::kelafshir_worn_start(left, right, up, down, width, rows, limit);
-    started(rt, b"; from C ", linked);
-    show::text(rt, b"\n");
-    let own = begun.question;
-    let from_c = linked.question;
-    Rod {
-        own: own,
-        from_c: from_c,
+    println!(rt; "{name}: {}; from C {}", Started(begun), Started(linked))?;
+    Ok(Rod {
+        own: begun.question,
+        from_c: linked.question,
+    })
+}
+
+impl Rod {
+    // A rod with a question that no call made.
+    pub fn of(q: Question) -> Rod {
+        Rod { own: q, from_c: q }
     }
-}
 
-fn pair_own(rt: &impl Print, q: Question, closed: &[u8], input: &[u8]) -> Question {
-    let asked = worn::pair(q, closed, input);
-    show::text(rt, b": ");
-    let answer = asked.answer;
-    said(rt, answer);
-    let after = asked.question;
-    question(rt, after);
-    after
-}
-
-fn pair_from_c(rt: &impl Print, q: Question, closed: &[u8], input: &[u8]) -> Question {
-    let told = firmware::kelafshir_worn_pair(q, closed, input);
-    show::text(rt, b"; from C ");
-    show::byte(rt, told.number);
-    show::text(rt, b" and ");
-    show::byte(rt, told.answer);
-    let after = told.question;
-    question(rt, after);
-    show::text(rt, b"\n");
-    after
-}
-
-// A pair whose rows are named.
-pub fn named_pair(rt: &impl Print, rod: Rod, name: &[u8], closed: &[u8], input: &[u8]) -> Rod {
-    show::text(rt, name);
-    let own = rod.own;
-    let from_c = rod.from_c;
-    let own_after = pair_own(rt, own, closed, input);
-    let from_c_after = pair_from_c(rt, from_c, closed, input);
-    Rod {
-        own: own_after,
-        from_c: from_c_after,
+    // A pair whose rows are named.
+    pub fn named_pair(
+        &mut self,
+        rt: &impl Print,
+        name: &str,
+        closed: &[u8],
+        input: &[u8],
+    ) -> io::Result<()> {
+        let asked = worn::pair(self.own, closed, input);
+        let told = firmware::kelafshir_worn_pair(self.from_c, closed, input);
+        self.own = asked.question;
+        self.from_c = told.question;
+        print!(rt; "{name}: {}{}", Said(asked.answer), Asked(asked.question))?;
+        println!(rt;
+            "; from C {} and {}{}",
+            told.number,
+            told.answer,
+            Asked(told.question)
+        )
     }
-}
 
-// A pair whose rows are shown.
-pub fn pair(rt: &impl Print, rod: Rod, closed: &[u8], input: &[u8]) -> Rod {
-    show::bytes(rt, b"closed", closed);
-    show::bytes(rt, b", input", input);
-    named_pair(rt, rod, b"", closed, input)
+    // A pair whose rows are shown.
+    pub fn pair(&mut self, rt: &impl Print, closed: &[u8], input: &[u8]) -> io::Result<()> {
+        print!(rt; "closed{}, input{}", Row(closed), Row(input))?;
+        self.named_pair(rt, "", closed, input)
+    }
+
+    // Pair after pair.
+    pub fn pairs(&mut self, rt: &impl Print, pairs: &[Pair]) -> io::Result<()> {
+        for &(closed, input) in pairs {
+            self.pair(rt, closed, input)?;
+        }
+        Ok(())
+    }
 }
 
 // A pair on a question that no call made.
-pub fn state(rt: &impl Print, name: &[u8], q: Question, closed: &[u8], input: &[u8]) {
-    show::text(rt, name);
-    show::text(rt, b", ");
-    pair(rt, Rod { own: q, from_c: q }, closed, input);
+pub fn state(
+    rt: &impl Print,
+    name: &str,
+    q: Question,
+    closed: &[u8],
+    input: &[u8],
+) -> io::Result<()> {
+    print!(rt; "{name}, ")?;
+    Rod::of(q).pair(rt, closed, input)
 }

@@ -1,14 +1,8 @@
 -- The positions beside a row, from one step to the next. By which idea: the front of the queue after step t has the position that gave the answer of step t (`answer_front`), and positions are put
 -- in their places as answers are (`answered_next`).
-use mathlib.Core.Path.{◌≡◌, refl, sym, ap, ◌∙◌}
-use mathlib.Core.List.{List, append-nil}
-use Prim.Native.Nat.{ℕ, suc, ◌+◌, ◌-◌, ◌≤◌, ◌<◌}
-use native.Mathlib.Nat.{zero-sub, add-zero}
-use native.Mathlib.Numerals.{add-one}
-use native.Mathlib.Omega.{arith}
-use lib.Dec.{leb}
-use lib.ListN.{length, get_or, length-set}
-use lib.Seq.{take_all, drop-length}
+use Rattle.std.proofs.Common.{◌≡◌, refl, sym, ap, ◌∙◌, List, append-nil, ℕ, suc, ◌+◌, ◌-◌, ◌≤◌, ◌<◌, add-zero, add-one, arith, leb, length, get_or, length-set, take_all}
+use Rattle.std.proofs.Math.Nat.{zero-sub}
+use Rattle.std.proofs.Math.Seq.{drop-length}
 use Rattle.morph.specs.declared.Kind.{Kind}
 use Rattle.morph.specs.Order.{Order, order_of}
 use Rattle.morph.specs.Line.{Entry, filter_line, queue}

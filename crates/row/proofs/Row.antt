@@ -1,14 +1,8 @@
 -- From one step of a row to the next. By which idea: the answer of step t is the front of the queue after it (`output_front`), and it goes where a pixel was read before.
-use mathlib.Core.Path.{◌≡◌, refl, sym, ap, ◌∙◌}
-use mathlib.Core.List.{List, [], ◌∷◌, ◌++◌, append_assoc, append-nil}
-use Prim.Native.Nat.{ℕ, suc, ◌+◌, ◌-◌, ◌≤◌, ◌<◌}
-use native.Mathlib.Nat.{zero-sub, add-zero}
-use native.Mathlib.Numerals.{add-one}
-use native.Mathlib.Omega.{arith}
-use borrow.Author.Tests.{leb-true, leb-false}
-use lib.Dec.{leb}
-use lib.ListN.{length, take, drop, get_or, set, length-take, length-set}
-use lib.Seq.{take-suc, drop-cons, set_at, get_or-append-add, get_or-drop, take_all, drop-length}
+use Rattle.std.proofs.Common.{◌≡◌, refl, sym, ap, ◌∙◌, List, [], ◌∷◌, ◌++◌, append_assoc, append-nil, ℕ, suc, ◌+◌, ◌-◌, ◌≤◌, ◌<◌, add-zero, add-one, arith, leb-true, leb-false, leb, length, take, drop, get_or, set, length-take, length-set, take-suc, drop-cons, get_or-append-add, get_or-drop, take_all}
+use Rattle.std.proofs.lemmas.List.{set_at}
+use Rattle.std.proofs.Math.Nat.{zero-sub}
+use Rattle.std.proofs.Math.Seq.{drop-length}
 use Rattle.morph.specs.declared.Kind.{Kind}
 use Rattle.morph.specs.Order.{Order, order_of}
 use Rattle.morph.specs.Line.{filter_line, best_at, queue, front, line_cost, line_costs}

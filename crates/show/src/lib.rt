@@ -1,173 +1,151 @@
-// What the test programs write: words, numbers, floats by their bytes, and what a call answers.
+// How the test programs write: samples and rows of them, what a call answers, and a state. Each is a value that is printed with `{}`.
 #![tactic(auto)]
 
-use morph::Kind;
 use picture::{Answer, Ending, Started, State};
 use plan_record::{Plan, Stage};
+use std::fmt;
 
-pub fn text(rt: &impl Print, t: &[u8]) {
-    let _ = rt.write_all(t);
+// What is told of a sample, a position or a number.
+pub trait Shown: Copy {
+    fn tell<W: fmt::Write>(self, f: &mut fmt::Formatter<W>) -> fmt::Result;
 }
 
-pub fn number(rt: &impl Print, n: usize) {
-    let _ = rt.print(n);
+impl Shown for u8 {
+    fn tell<W: fmt::Write>(self, f: &mut fmt::Formatter<W>) -> fmt::Result {
+        write!(f, "{self}")
+    }
 }
 
-pub fn byte(rt: &impl Print, n: u8) {
-    let _ = rt.print(n);
+impl Shown for u16 {
+    fn tell<W: fmt::Write>(self, f: &mut fmt::Formatter<W>) -> fmt::Result {
+        write!(f, "{self}")
+    }
 }
 
-pub fn position(rt: &impl Print, n: u16) {
-    let _ = rt.print(n);
+impl Shown for usize {
+    fn tell<W: fmt::Write>(self, f: &mut fmt::Formatter<W>) -> fmt::Result {
+        write!(f, "{self}")
+    }
 }
 
-fn hex(rt: &impl Print, b: u8) {
-    let _ = print!(rt; "{b:02x}");
+// A float is told by its four bytes, high byte first.
+impl Shown for f32 {
+    fn tell<W: fmt::Write>(self, f: &mut fmt::Formatter<W>) -> fmt::Result {
+        let mut bytes = [0u8; 4];
+        sample::rate::to_bytes(self, &mut bytes, 0);
+        write!(f, "{:08x}", u32::from_le_bytes(bytes))
+    }
 }
 
-// A float by its four bytes, high byte first.
-pub fn float(rt: &impl Print, x: f32) {
-    let mut bytes = [0u8; 4];
-    sample::rate::to_bytes(x, &mut bytes, 0);
-    hex(rt, bytes[3]);
-    hex(rt, bytes[2]);
-    hex(rt, bytes[1]);
-    hex(rt, bytes[0]);
+// One of them.
+#[derive(Clone, Copy)]
+pub struct One<T>(pub T);
+
+impl<T: Shown> fmt::Display for One<T> {
+    fn fmt<W: fmt::Write>(&self, f: &mut fmt::Formatter<W>) -> fmt::Result {
+        self.0.tell(f)
+    }
+}
+
+// A row of them, each behind a blank.
+#[derive(Clone, Copy)]
+pub struct Row<'a, T>(pub &'a [T]);
+
+impl<T: Shown> fmt::Display for Row<'_, T> {
+    fn fmt<W: fmt::Write>(&self, f: &mut fmt::Formatter<W>) -> fmt::Result {
+        for each in self.0 {
+            write!(f, " {}", One(*each))?;
+        }
+        Ok(())
+    }
 }
 
 // What a step that gave no value says.
-pub fn not_yet(rt: &impl Print, comparisons: usize) {
-    text(rt, b"not yet, comparisons ");
-    number(rt, comparisons);
+#[derive(Clone, Copy)]
+pub struct NotYet(pub usize);
+
+impl fmt::Display for NotYet {
+    fn fmt<W: fmt::Write>(&self, f: &mut fmt::Formatter<W>) -> fmt::Result {
+        write!(f, "not yet, comparisons {}", self.0)
+    }
 }
 
-pub fn refused(rt: &impl Print, no: u8, place: usize) {
-    text(rt, b"refused ");
-    byte(rt, no);
-    text(rt, b" at ");
-    number(rt, place);
+// A refusal by its number, and the column or the position that it names.
+#[derive(Clone, Copy)]
+pub struct Refused(pub u8, pub usize);
+
+impl fmt::Display for Refused {
+    fn fmt<W: fmt::Write>(&self, f: &mut fmt::Formatter<W>) -> fmt::Result {
+        write!(f, "refused {} at {}", self.0, self.1)
+    }
 }
 
-// A picture's start.
-pub fn started(rt: &impl Print, name: &[u8], s: Started) {
-    text(rt, b"picture start, ");
-    text(rt, name);
-    text(rt, b": ");
-    byte(rt, s.number);
-    text(rt, b"\n");
-}
+// A value of another crate, which says nothing of how it is printed.
+#[derive(Clone, Copy)]
+pub struct Told<T>(pub T);
 
 // A picture's step.
-pub fn answer(rt: &impl Print, a: Answer) {
-    match a {
-        Answer::Row {
-            number,
-            comparisons,
-        } => {
-            text(rt, b"row ");
-            crate::number(rt, number);
-            text(rt, b", comparisons ");
-            crate::number(rt, comparisons);
-        }
-        Answer::NotYet { comparisons } => {
-            not_yet(rt, comparisons);
-        }
-        Answer::Refused { number, column } => {
-            refused(rt, number, column);
+impl fmt::Display for Told<Answer> {
+    fn fmt<W: fmt::Write>(&self, f: &mut fmt::Formatter<W>) -> fmt::Result {
+        match self.0 {
+            Answer::Row {
+                number,
+                comparisons,
+            } => write!(f, "row {number}, comparisons {comparisons}"),
+            Answer::NotYet { comparisons } => write!(f, "{}", NotYet(comparisons)),
+            Answer::Refused { number, column } => write!(f, "{}", Refused(number, column)),
         }
     }
 }
 
 // ---- a run's state
 
-fn ending(rt: &impl Print, e: Ending) {
-    match e {
-        Ending::Fixed => {
-            text(rt, b"; fixed, sample ");
-        }
-        Ending::Open => {
-            text(rt, b"; open, sample ");
-        }
-        Ending::Stopped => {
-            text(rt, b"; stopped, sample ");
+impl fmt::Display for Told<Ending> {
+    fn fmt<W: fmt::Write>(&self, f: &mut fmt::Formatter<W>) -> fmt::Result {
+        match self.0 {
+            Ending::Fixed => write!(f, "fixed"),
+            Ending::Open => write!(f, "open"),
+            Ending::Stopped => write!(f, "stopped"),
         }
     }
 }
 
 // The state's fields but for the plan.
-pub fn state(rt: &impl Print, s: State) {
-    let e = s.ending;
-    ending(rt, e);
-    byte(rt, s.sample);
-    text(rt, b", width ");
-    number(rt, s.width);
-    text(rt, b", rows ");
-    number(rt, s.rows);
-    text(rt, b", step ");
-    number(rt, s.step);
-}
-
-fn kind_number(k: Kind) -> u8 {
-    match k {
-        Kind::Erosion => 0,
-        Kind::Dilation => 1,
+impl fmt::Display for Told<State> {
+    fn fmt<W: fmt::Write>(&self, f: &mut fmt::Formatter<W>) -> fmt::Result {
+        let s = self.0;
+        write!(
+            f,
+            "; {}, sample {}, width {}, rows {}, step {}",
+            Told(s.ending),
+            s.sample,
+            s.width,
+            s.rows,
+            s.step
+        )
     }
 }
 
-fn next_byte(rt: &impl Print, n: u8) {
-    text(rt, b" ");
-    byte(rt, n);
-}
-
-fn stage(rt: &impl Print, s: Stage) {
-    let k = s.kind;
-    next_byte(rt, kind_number(k));
-    next_byte(rt, s.left);
-    next_byte(rt, s.right);
-    next_byte(rt, s.up);
-    next_byte(rt, s.down);
+impl fmt::Display for Told<Stage> {
+    fn fmt<W: fmt::Write>(&self, f: &mut fmt::Formatter<W>) -> fmt::Result {
+        let s = self.0;
+        let kind = s.kind as u8;
+        write!(f, " {kind} {} {} {} {}", s.left, s.right, s.up, s.down)
+    }
 }
 
 // All 16 places of a plan, and how many of them are its stages.
-pub fn plan(rt: &impl Print, plan: Plan) {
-    text(rt, b"; plan of ");
-    number(rt, plan.count);
-    text(rt, b":");
-    for each in &plan.stages {
-        stage(rt, *each);
+impl fmt::Display for Told<Plan> {
+    fn fmt<W: fmt::Write>(&self, f: &mut fmt::Formatter<W>) -> fmt::Result {
+        write!(f, "; plan of {}:", self.0.count)?;
+        for stage in &self.0.stages {
+            write!(f, "{}", Told(*stage))?;
+        }
+        Ok(())
     }
 }
 
-// ---- rows, under a name
-
-pub fn bytes(rt: &impl Print, name: &[u8], row: &[u8]) {
-    text(rt, name);
-    for each in row {
-        text(rt, b" ");
-        byte(rt, *each);
-    }
-}
-
-pub fn floats(rt: &impl Print, name: &[u8], row: &[f32]) {
-    text(rt, name);
-    for each in row {
-        text(rt, b" ");
-        float(rt, *each);
-    }
-}
-
-pub fn positions(rt: &impl Print, name: &[u8], row: &[u16]) {
-    text(rt, name);
-    for each in row {
-        text(rt, b" ");
-        position(rt, *each);
-    }
-}
-
-pub fn numbers(rt: &impl Print, name: &[u8], row: &[usize]) {
-    text(rt, name);
-    for each in row {
-        text(rt, b" ");
-        number(rt, *each);
-    }
+// A picture's start: a line, under a name.
+pub fn started(rt: &impl Print, name: &str, s: Started) -> std::io::Result<()> {
+    println!(rt; "picture start, {name}: {}", s.number)
 }

@@ -23,9 +23,9 @@ loop-got-preserved g c =
     let l = c.loop-got in
     let from = l.got in
     let room = length l.part - from in
-    let more = c.in-With.more in
-    let new = c.read_some-some.new.part in
+    let more = c.in_ok-more.more in
+    let new = c.read_some.new.part in
     let within = l.invariant.0 in
-    let part = slice_range-put_mid from room more l.part new within c.in-With.ensures.few in
+    let part = slice_range-put_mid from room more l.part new within c.in_ok-more.ensures.few in
     let joined = take_split from (from + more) l.part (put_mid from room l.part new) (omega arith) (take-put_mid_below _ _ _ _ _ (le_refl _) within) in
-    (search rules, subst (Consumes _ _) (ap (λ l'. take from l.part ++ l') (sym part) ∙ joined) (Consumes-trans _ _ _ _ _ l.invariant.1 c.in-With.ensures.bytes.0))
+    (search rules, subst (Consumes _ _) (ap (λ l'. take from l.part ++ l') (sym part) ∙ joined) (Consumes-trans _ _ _ _ _ l.invariant.1 c.in_ok-more.ensures.bytes.0))

@@ -9,6 +9,6 @@ use Rattle.descriptors.proofs.write_whole.Goals as goal
 pub loop-done-preserved : goal.loop-done-preserved
 loop-done-preserved g c =
     let done = c.loop-done.done in
-    let w = c.write_some-taken in
-    let same = ap (λ l. take done c.args.bytes.now ++ take w.result l) (take_rest c.args.bytes.now done) ∙ sym (take-add done w.result c.args.bytes.now) in
-    (search rules, subst (Appends _ _) same (Appends-trans _ _ _ _ _ c.loop-done.invariant.1 w.ensures.bytes))
+    let taken = c.in-Some.taken in
+    let same = ap (λ l. take done c.args.bytes.now ++ take taken l) (take_rest c.args.bytes.now done) ∙ sym (take-add done taken c.args.bytes.now) in
+    (search rules, subst (Appends _ _) same (Appends-trans _ _ _ _ _ c.loop-done.invariant.1 c.in-Some.ensures.2))

@@ -1,25 +1,21 @@
 -- `start` meets its contract, by the tests that led to each end.
 use mathlib.Core.Path.{sym, ◌∙◌}
-use borrow.Author.Tests.{lt-ltb, le-ltb}
+use Rattle.morph.proofs.Exits.{first_up}
 use Rattle.line_judge.specs.Numbers.{line_start_number}
 use Rattle.line_judge.proofs.start.Goals as goal
 
-pub returns-then-kind-gt1 : goal.returns-then-kind-gt1
+pub returns-in_err-kind-clause-number : goal.returns-in_err-kind-clause-number
 unfolding line_start_number
-returns-then-kind-gt1 c = simp (lt-ltb _ _ c.if-kind-gt1.true)
+returns-in_err-kind-clause-number c = first_up c.in_err-kind.field-0.0 _ _ _ c.from_residual.ensures.1 c.in_err-kind.ensures
 
-pub returns-then-extent_over : goal.returns-then-extent_over
+pub returns-then-is_extent_over-clause-number : goal.returns-then-is_extent_over-clause-number
 unfolding line_start_number
-returns-then-extent_over c = simp (le-ltb _ _ c.if-kind-gt1.false, sym c.extent_over.ensures ∙ c.if-extent_over.true)
+returns-then-is_extent_over-clause-number c = simp (c.in_ok-kind.ensures.1, sym c.is_extent_over.ensures ∙ c.if-is_extent_over.true)
 
-pub returns-then-pixels_off : goal.returns-then-pixels_off
+pub returns-then-is_off-clause-number : goal.returns-then-is_off-clause-number
 unfolding line_start_number
-returns-then-pixels_off c =
-    let at-extent-over = c in
-    simp (le-ltb _ _ at-extent-over.if-kind-gt1.false, sym at-extent-over.extent_over.ensures ∙ c.if-extent_over.false, sym c.pixels_off.ensures ∙ c.if-pixels_off.true)
+returns-then-is_off-clause-number c = simp (c.in_ok-kind.ensures.1, sym c.is_extent_over.ensures ∙ c.if-is_extent_over.false, sym c.is_off.ensures ∙ c.if-is_off.true)
 
-pub returns : goal.returns
+pub returns-clause-number : goal.returns-clause-number
 unfolding line_start_number
-returns c =
-    let at-extent-over = c in
-    simp (le-ltb _ _ at-extent-over.if-kind-gt1.false, sym at-extent-over.extent_over.ensures ∙ c.if-extent_over.false, sym c.pixels_off.ensures ∙ c.if-pixels_off.false)
+returns-clause-number c = simp (c.in_ok-kind.ensures.1, sym c.is_extent_over.ensures ∙ c.if-is_extent_over.false, sym c.is_off.ensures ∙ c.if-is_off.false)

@@ -1,6 +1,5 @@
 -- The plan so far is that of the orders so far.
-use mathlib.Core.Path.{◌≡◌}
-use Prim.Native.Nat.{◌-◌, ◌*◌}
+use Rattle.std.proofs.Common.{◌≡◌, ◌-◌, ◌*◌}
 use Rattle.plan_record.specs.Plan.{plan_of, alternating_stages}
 use Rattle.plan_named.proofs.sequences.Given as goal
 

@@ -1,10 +1,7 @@
 -- The sum so far is that of the stages so far.
-use mathlib.Core.Path.{ap}
-use Prim.Native.Nat.{ℕ, ◌*◌}
-use lib.ListN.{take}
+use Rattle.std.proofs.Common.{ap, ℕ, ◌*◌, take, arith}
 use Rattle.plan_record.specs.Plan.{unused, cells_of}
 use Rattle.plan_record.proofs.Laws.{sum_more, mul_most}
-use native.Mathlib.Omega.{arith}
 use Rattle.plan_record.proofs.cells.Goals as goal
 
 pub loop-stage-preserved : goal.loop-stage-preserved

@@ -1,14 +1,10 @@
 -- What is left to judge decides.
-use mathlib.Core.Path.{◌≡◌, refl, sym, ap, ◌∙◌}
-use Prim.Native.Nat.{◌<◌}
-use lib.ListN.{length, get_or, take}
-use lib.Seq.{get_or-take, length-take-le}
+use Rattle.std.proofs.Common.{◌≡◌, refl, sym, ap, ◌∙◌, ◌<◌, length, get_or, take, get_or-take, length-take-le, arith}
 use Rattle.morph.proofs.Numbers.{judging_next, judging_found, judging_last}
 use Rattle.plan_record.proofs.Exits.{said_up, first_up, refused_some}
 use Rattle.plan_record.proofs.Laws.{count_accepted}
 use Rattle.plan_record.proofs.Named.{counted}
 use Rattle.plan_record.specs.Plan.{unused, record_stage_number, record_stages_number, record_number}
-use native.Mathlib.Omega.{arith}
 use Rattle.plan_record.proofs.judge.Goals as goal
 
 pub returns-in_err-judge_count : goal.returns-in_err-judge_count

@@ -1,5 +1,5 @@
 -- What is left to judge decides.
-use lib.ListN.{get_or}
+use Rattle.std.proofs.Common.{get_or}
 use Rattle.morph.proofs.Numbers.{Judging}
 use Rattle.plan_record.specs.Plan.{unused, record_stage_number}
 use Rattle.plan_record.proofs.judge.Given as goal

@@ -1,8 +1,7 @@
 -- The sum so far is that of the stages so far.
-use lib.ListN.{take}
+use Rattle.std.proofs.Common.{take, arith}
 use Rattle.plan_record.specs.Plan.{unused, below_of}
 use Rattle.plan_record.proofs.Laws.{sum_more}
-use native.Mathlib.Omega.{arith}
 use Rattle.plan_record.proofs.look_ahead.Goals as goal
 
 pub loop-stage-preserved : goal.loop-stage-preserved

@@ -1,7 +1,5 @@
 -- The sum so far is that of the stages so far.
-use mathlib.Core.Path.{◌≡◌}
-use Prim.Native.Nat.{◌*◌, ◌≤◌}
-use lib.ListN.{take}
+use Rattle.std.proofs.Common.{◌≡◌, ◌*◌, ◌≤◌, take}
 use Rattle.plan_record.specs.Plan.{total, below_of}
 use Rattle.plan_record.proofs.look_ahead.Given as goal
 

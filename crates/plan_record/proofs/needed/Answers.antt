@@ -1,5 +1,5 @@
 -- The plan, then the width, then what is needed.
-use mathlib.Core.Path.{◌∙◌, sym}
+use Rattle.std.proofs.Common.{◌∙◌, sym}
 use Rattle.morph.proofs.Numbers.{first_one, first_skip, found, skip}
 use Rattle.plan_record.proofs.Exits.{refused_some}
 use Rattle.plan_record.proofs.Laws.{needs_refused, needs_all}

@@ -1,9 +1,7 @@
 -- The plan so far is that of the stages so far.
-use mathlib.Core.Path.{refl}
-use lib.ListN.{take}
+use Rattle.std.proofs.Common.{refl, take, arith}
 use Rattle.plan_record.specs.Plan.{unused}
 use Rattle.plan_record.proofs.Laws.{used_more}
-use native.Mathlib.Omega.{arith}
 use Rattle.plan_record.proofs.trimmed.Goals as goal
 
 pub loop-stage-preserved : goal.loop-stage-preserved

@@ -1,6 +1,5 @@
 -- The plan so far is that of the stages so far.
-use mathlib.Core.Path.{◌≡◌}
-use lib.ListN.{take}
+use Rattle.std.proofs.Common.{◌≡◌, take}
 use Rattle.plan_record.specs.Plan.{plan_of}
 use Rattle.plan_record.proofs.trimmed.Given as goal
 

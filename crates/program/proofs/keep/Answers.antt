@@ -1,15 +1,15 @@
--- Bytes are moved to the front one by one.
-use Rattle.std.proofs.Common.{refl, arith}
-use Rattle.program.proofs.Buffer.{moving_next, moving_last}
+-- Bytes are moved to the front.
+use Rattle.std.proofs.Common.{◌≡◌, refl, sym, ap, ◌∙◌, ℕ, ◌+◌, ◌-◌, ◌≤◌, List, length, take, drop, arith, length-drop}
+use Rattle.std.proofs.lemmas.List.Edits.{take-paste}
+use lib.Seq.{take-add, drop_at, length-take-le, paste}
 use Rattle.program.proofs.keep.Goals as goal
 
-pub loop-i-preserved : goal.loop-i-preserved
-loop-i-preserved c =
-    let l = c.loop-i in
-    let k = l.invariant.0.long in
-    (moving_next _ l.bytes _ l.i l.invariant.0 (omega arith), omega arith)
+moved_front : (l : List ℕ) (used have : ℕ) → used ≤ have → have ≤ length l → take (have - used) (paste l 0 (drop used l) (have - used)) ≡ drop used (take have l)
+moved_front l used have h k =
+    let e : have ≡ used + (have - used) = omega arith in
+    let z : have - used ≡ 0 + (have - used) = omega arith in
+    ap (λ n. take n (paste l 0 (drop used l) (have - used))) z ∙ take-paste l 0 (drop used l) (have - used) (omega arith) (omega (arith, length-drop used l))
+    ∙ sym (ap (λ n. drop used (take n l)) e ∙ ap (drop used) (take-add used (have - used) l) ∙ drop_at (take used l) (take (have - used) (drop used l)) used (length-take-le used l (omega arith)))
 
 pub returns : goal.returns
-returns c =
-    let l = c.loop-i in
-    (refl, moving_last _ l.bytes _ _ l.i l.invariant.0 (omega arith) c.requires.0 c.requires.1)
+returns c = (refl, ap (take _) c.copy_within.ensures.after ∙ moved_front _ _ _ c.requires.0 c.requires.1)

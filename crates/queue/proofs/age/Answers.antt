@@ -1,7 +1,5 @@
 -- `age` meets its contract: the definition, word for word.
-use native.Mathlib.Omega.{arith}
-use mathlib.Core.Path.{ap}
-use Prim.Native.Nat.{◌+◌, ◌-◌, ◌%◌}
+use Rattle.std.proofs.Common.{arith, ap, ◌+◌, ◌-◌, ◌%◌}
 use Rattle.morph.specs.Cell.{age_of}
 use Rattle.queue.proofs.age.Goals as goal
 

@@ -1,6 +1,6 @@
 -- `cell_goes` meets its contract: on each way out the tests decide the definition.
-use native.Mathlib.Omega.{arith}
-use borrow.Author.Tests.{eq-eqb, ne_eqb, le-leb, lt-leb}
+use Rattle.std.proofs.Common.{arith, eq-eqb, ne_eqb, le-leb}
+use Rattle.std.proofs.lemmas.Bool.{lt-leb}
 use Rattle.queue.specs.Inner.{cell_goes_of}
 use Rattle.queue.proofs.cell_goes.Goals as goal
 

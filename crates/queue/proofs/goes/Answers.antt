@@ -1,6 +1,6 @@
 -- `queue::goes` meets its contract: each answer rewrites with the tests that led there.
-use native.Mathlib.Omega.{arith}
-use borrow.Author.Tests.{eq-eqb, ne_eqb, le-leb, lt-leb}
+use Rattle.std.proofs.Common.{arith, eq-eqb, ne_eqb, le-leb}
+use Rattle.std.proofs.lemmas.Bool.{lt-leb}
 use Rattle.queue.specs.Inner.{goes_of}
 use Rattle.queue.proofs.goes.Goals as goal
 

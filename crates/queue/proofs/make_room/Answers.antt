@@ -1,5 +1,5 @@
 -- `make_room` meets its contract, by the law of what it finds on the way.
-use native.Mathlib.Omega.{arith}
+use Rattle.std.proofs.Common.{arith}
 use Rattle.queue.proofs.Laws.{room_kept, room_aged}
 use Rattle.queue.proofs.make_room.Goals as goal
 

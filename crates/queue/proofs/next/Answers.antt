@@ -1,7 +1,5 @@
 -- `queue::next` meets its contract: by the two cases of `wrap`.
-use mathlib.Core.Path.{sym}
-use Prim.Native.Nat.{◌+◌}
-use native.Mathlib.Omega.{arith}
+use Rattle.std.proofs.Common.{sym, ◌+◌, arith}
 use Rattle.morph.proofs.Ring.{wrap_low, wrap_high}
 use Rattle.queue.proofs.next.Goals as goal
 

@@ -1,10 +1,7 @@
 -- `pop` meets its contract. The loop's invariant: `left` entries are left, and `at` is the place behind them.
-use mathlib.Core.Path.{refl, sym, ◌∙◌}
+use Rattle.std.proofs.Common.{refl, sym, ◌∙◌, ◌+◌, arith, length}
+use Rattle.std.proofs.lemmas.Bool.{not-true, not-false}
 use Rattle.std.proofs.lemmas.List.{get_or_read_under}
-use Prim.Native.Nat.{◌+◌}
-use borrow.Author.Tests.{not-true, not-false}
-use native.Mathlib.Omega.{arith}
-use lib.ListN.{length}
 use Rattle.morph.proofs.Ring.{wrap_lt, wrap_before}
 use Rattle.queue.proofs.Laws.{left_all, left_none, left_more, left_stop}
 use Rattle.queue.proofs.pop.Goals as goal

@@ -1,7 +1,5 @@
 -- `pop` meets its contract. The loop's invariant: `left` entries are left, and `at` is the place behind them.
-use mathlib.Core.Path.{◌≡◌}
-use Prim.Native.Nat.{◌≤◌, ◌+◌}
-use lib.ListN.{length}
+use Rattle.std.proofs.Common.{◌≡◌, ◌≤◌, ◌+◌, length}
 use Rattle.morph.specs.Ring.{wrap}
 use Rattle.queue.proofs.Laws.{Left}
 use Rattle.queue.proofs.pop.Given as goal

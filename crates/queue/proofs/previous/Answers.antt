@@ -1,6 +1,5 @@
 -- `queue::previous` meets its contract: by the two cases of `wrap`.
-use Prim.Native.Nat.{◌+◌, ◌-◌}
-use native.Mathlib.Omega.{arith}
+use Rattle.std.proofs.Common.{◌+◌, ◌-◌, arith}
 use Rattle.morph.proofs.Ring.{wrap_low, wrap_high}
 use Rattle.queue.proofs.previous.Goals as goal
 

@@ -1,6 +1,5 @@
 -- `push` meets its contract, by the law of an entry stored behind those that stay.
-use mathlib.Core.Path.{◌≡◌}
-use native.Mathlib.Omega.{arith}
+use Rattle.std.proofs.Common.{◌≡◌, arith}
 use Rattle.queue.proofs.Cells.{cell_kept, cell_aged}
 use Rattle.queue.proofs.push.Goals as goal
 

@@ -1,5 +1,6 @@
 -- `row_of` meets its contract: the tests are the definition's.
-use borrow.Author.Tests.{le-leb, lt-leb, lt-ltb, le-ltb}
+use Rattle.std.proofs.Common.{le-leb, lt-ltb, le-ltb}
+use Rattle.std.proofs.lemmas.Bool.{lt-leb}
 use Rattle.morph.specs.Cell.{row_of}
 use Rattle.queue.proofs.row_of.Goals as goal
 

@@ -1,6 +1,5 @@
 -- `queue::slot` meets its contract: by the two cases of `wrap`.
-use mathlib.Core.Path.{sym}
-use native.Mathlib.Omega.{arith}
+use Rattle.std.proofs.Common.{sym, arith}
 use Rattle.morph.proofs.Ring.{wrap_low, wrap_high}
 use Rattle.queue.proofs.slot.Goals as goal
 

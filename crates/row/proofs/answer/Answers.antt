@@ -1,5 +1,6 @@
 -- `answer` meets its contract, by the test that led to each end.
-use borrow.Author.Tests.{le-leb, lt-leb}
+use Rattle.std.proofs.Common.{le-leb}
+use Rattle.std.proofs.lemmas.Bool.{lt-leb}
 use Rattle.row.specs.Inner.{answer_put}
 use Rattle.row.proofs.answer.Goals as goal
 

@@ -1,11 +1,7 @@
 -- `drain_row` meets its contract. The loop's invariant: whatever row was read, `Read` holds at the steps done; its laws are those of proofs/Row.antt.
-use mathlib.Core.Path.{refl}
-use native.Mathlib.Omega.{arith}
-use Rattle.row.proofs.Row.{drain_first, drain_step, drain_last}
+use Rattle.std.proofs.Common.{refl, arith}
+use Rattle.row.proofs.Row.{drain_step, drain_last}
 use Rattle.row.proofs.drain_row.Goals as goal
-
-pub loop-t-init : goal.loop-t-init
-loop-t-init g c = (refl, refl, drain_first g.S.Sample.samples _ _ _ _ _ _ _ (omega arith) (omega arith))
 
 pub loop-t-preserved : goal.loop-t-preserved
 loop-t-preserved g c =

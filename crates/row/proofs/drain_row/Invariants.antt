@@ -1,7 +1,5 @@
 -- `drain_row` meets its contract. The loop's invariant: whatever row was read, `Read` holds at the steps done; its laws are those of proofs/Row.antt.
-use Prim.Native.Nat.{◌+◌}
-use mathlib.Core.Path.{◌≡◌}
-use lib.ListN.{length}
+use Rattle.std.proofs.Common.{◌+◌, ◌≡◌, length}
 use Rattle.row.proofs.Row.{Draining}
 use Rattle.row.proofs.drain_row.Given as goal
 

@@ -1,9 +1,6 @@
 -- `read_row` meets its contract. The loop's invariant is `Read` at the steps done, beside the place behind the last; its laws are those of proofs/Row.antt.
-use Prim.Native.Nat.{◌+◌}
-use mathlib.Core.Path.{◌≡◌, refl, sym, ap, ◌∙◌}
-use native.Mathlib.Omega.{arith}
+use Rattle.std.proofs.Common.{◌+◌, refl, sym, ap, ◌∙◌, arith}
 use Rattle.std.proofs.lemmas.List.{get_or_read_under}
-use lib.ListN.{length}
 use Rattle.morph.specs.Ring.{wrap}
 use Rattle.morph.proofs.Ring.{wrap_low}
 use Rattle.row.proofs.Row.{read_first, read_next, behind_next}
@@ -13,20 +10,6 @@ pub loop-t-init : goal.loop-t-init
 loop-t-init g c =
     let s = c in
     (c.wide-n.ensures.0 ∙ c.position.ensures, sym (wrap_low 63 (0 + 0) (omega arith)), read_first g.S.Sample.samples _ _ _ _ _ _ s.requires.3 s.requires.4)
-
-pub push_within-r-requires : goal.push_within-r-requires
-push_within-r-requires g c =
-    let at-loop = c in
-    let s = at-loop in
-    let l = at-loop.loop-t in
-    let r = l.invariant.2 in
-    let e = l.invariant.1 ∙ ap (λ n. wrap n (l.start + l.count)) (sym r.values_long) in
-    (omega (arith, r.below, r.values_long), r.fits, omega arith, omega (arith, s.requires.0, s.requires.1, r.values_long), omega (arith, r.values_long), r.positions_long ∙ sym r.values_long, e)
-
-pub answer-requires : goal.answer-requires
-answer-requires g c =
-    let at_test = c in
-    let i = at_test.loop-t.invariant in omega (arith, i.0, i.2.long, at_test.loop-t-test.true)
 
 pub loop-t-preserved : goal.loop-t-preserved
 loop-t-preserved g c =
@@ -50,6 +33,3 @@ loop-t-preserved g c =
       rw (c.answer.ensures, m.1, m.2, e)
           (read_next g.S.Sample.samples _ _ _ _ _ _ _ _ _ _ _ i.2 _ _ r (omega (arith, i.0, more)) s.requires.0 s.requires.1 read (rw e at m.0) (rw m.1 at at_front.front-front.ensures.0)),
     )
-
-pub returns : goal.returns
-returns g c = let e : c.loop-t.t ≡ length c.args.row.now = omega arith in rw e at c.loop-t.invariant.2

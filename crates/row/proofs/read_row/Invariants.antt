@@ -1,7 +1,5 @@
 -- `read_row` meets its contract. The loop's invariant is `Read` at the steps done, beside the place behind the last; its laws are those of proofs/Row.antt.
-use Prim.Native.Nat.{◌+◌}
-use mathlib.Core.Path.{◌≡◌}
-use lib.ListN.{length}
+use Rattle.std.proofs.Common.{◌+◌, ◌≡◌, length}
 use Rattle.morph.specs.Ring.{wrap}
 use Rattle.row.specs.Inner.{Read}
 use Rattle.row.proofs.read_row.Given as goal

@@ -1,11 +1,7 @@
 -- `drain_row` meets its contract. The loop's invariant: whatever row was read, `ReadOrigins` holds at the steps done; its laws are those of row's proofs/Origins.antt.
-use mathlib.Core.Path.{refl}
-use native.Mathlib.Omega.{arith}
-use Rattle.row.proofs.Origins.{drain_origins_first, drain_origins_step, drain_origins_last}
+use Rattle.std.proofs.Common.{arith}
+use Rattle.row.proofs.Origins.{drain_origins_step, drain_origins_last}
 use Rattle.row_origin.proofs.drain_row.Goals as goal
-
-pub loop-t-init : goal.loop-t-init
-loop-t-init g c = (refl, refl, drain_origins_first g.S.Sample.samples _ _ _ _ _ _ _ _ (omega arith) (omega arith))
 
 pub loop-t-preserved : goal.loop-t-preserved
 loop-t-preserved g c =

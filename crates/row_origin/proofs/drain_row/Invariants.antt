@@ -1,7 +1,5 @@
 -- `drain_row` meets its contract. The loop's invariant: whatever row was read, `ReadOrigins` holds at the steps done; its laws are those of row's proofs/Origins.antt.
-use Prim.Native.Nat.{◌+◌}
-use mathlib.Core.Path.{◌≡◌}
-use lib.ListN.{length}
+use Rattle.std.proofs.Common.{◌+◌, ◌≡◌, length}
 use Rattle.row.proofs.Origins.{DrainingOrigins}
 use Rattle.row_origin.proofs.drain_row.Given as goal
 

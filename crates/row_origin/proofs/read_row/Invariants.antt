@@ -1,7 +1,5 @@
 -- `read_row` meets its contract. The loop's invariant is `ReadOrigins` at the steps done, beside the place behind the last; its laws are those of row's proofs/Row.antt and proofs/Origins.antt.
-use Prim.Native.Nat.{◌+◌}
-use mathlib.Core.Path.{◌≡◌}
-use lib.ListN.{length}
+use Rattle.std.proofs.Common.{◌+◌, ◌≡◌, length}
 use Rattle.morph.specs.Ring.{wrap}
 use Rattle.row.specs.Inner.{ReadOrigins}
 use Rattle.row_origin.proofs.read_row.Given as goal

@@ -1,0 +1,169 @@
+// Steps, on pictures of either kind of sample.
+use crate::head::Head;
+use crate::input;
+use crate::kind::Pixel;
+use crate::told::Whole;
+use picture::{State, Stepped};
+use show::{Row, Told};
+use std::{fmt, io};
+
+// A row or a drain, and each asking for origins.
+#[derive(Clone, Copy, Debug, PartialEq, Eq)]
+enum Call {
+    Row,
+    Drain,
+    OriginRow,
+    OriginDrain,
+}
+
+impl From<u8> for Call {
+    fn from(command: u8) -> Call {
+        match command % 4 {
+            0 => Call::Row,
+            1 => Call::Drain,
+            2 => Call::OriginRow,
+            _ => Call::OriginDrain,
+        }
+    }
+}
+
+impl fmt::Display for Call {
+    fn fmt<W: fmt::Write>(&self, f: &mut fmt::Formatter<W>) -> fmt::Result {
+        match self {
+            Call::Row => write!(f, "row"),
+            Call::Drain => write!(f, "drain"),
+            Call::OriginRow => write!(f, "origin row"),
+            Call::OriginDrain => write!(f, "origin drain"),
+        }
+    }
+}
+
+// What a step is lent. The ring is the columns.
+#[derive(Drop)]
+struct Lent<'a, S> {
+    pixels: &'a [S],
+    out: &'a mut [S],
+    rows: &'a mut [usize],
+    from: &'a mut [u16],
+    values: &'a mut [S],
+    positions: &'a mut [u8],
+    columns: &'a mut [u16],
+    starts: &'a mut [u8],
+    lengths: &'a mut [u8],
+}
+
+impl<S: Pixel> Lent<'_, S> {
+    fn step(&mut self, call: Call, s: State) -> Stepped {
+        match call {
+            Call::Row => S::row(
+                s,
+                self.pixels,
+                self.out,
+                self.values,
+                self.positions,
+                self.starts,
+                self.lengths,
+            ),
+            Call::Drain => S::drain(
+                s,
+                self.out,
+                self.values,
+                self.positions,
+                self.starts,
+                self.lengths,
+            ),
+            Call::OriginRow => S::origin_row(
+                s,
+                self.pixels,
+                self.out,
+                self.rows,
+                self.from,
+                self.values,
+                self.positions,
+                self.columns,
+                self.starts,
+                self.lengths,
+            ),
+            Call::OriginDrain => S::origin_drain(
+                s,
+                self.out,
+                self.rows,
+                self.from,
+                self.values,
+                self.positions,
+                self.columns,
+                self.starts,
+                self.lengths,
+            ),
+        }
+    }
+
+    fn tell(&self, rt: &impl Print) -> io::Result<()> {
+        print!(rt; "; out{}; origin rows{}", Row(self.out), Row(self.rows))?;
+        print!(rt;
+            "; origin columns{}; values{}",
+            Row(self.from),
+            Row(self.values)
+        )?;
+        print!(rt;
+            "; positions{}; columns{}",
+            Row(self.positions),
+            Row(self.columns)
+        )?;
+        print!(rt;
+            "; starts{}; lengths{}",
+            Row(self.starts),
+            Row(self.lengths)
+        )
+    }
+}
+
+// A step, and its line. There is room for the row, the output row and the cells' values; what a step is lent is read, slice after slice.
+fn step<S: Pixel>(
+    rt: &(impl Print + Input),
+    head: &Head,
+    pixels: &mut [S],
+    out: &mut [S],
+    values: &mut [S],
+) -> io::Result<()> {
+    let mut rows = [0usize; 4096];
+    let mut from = [0u16; 4096];
+    let mut positions = [0u8; 4096];
+    let mut columns = [0u16; 4096];
+    let mut starts = [0u8; 4096];
+    let mut lengths = [0u8; 4096];
+    let mut lent = Lent {
+        pixels: input::slice(rt, head.lent(0), pixels),
+        out: input::slice(rt, head.lent(1), out),
+        rows: input::slice(rt, head.lent(2), &mut rows),
+        from: input::slice(rt, head.lent(3), &mut from),
+        values: input::slice(rt, head.lent(4), values),
+        positions: input::slice(rt, head.lent(5), &mut positions),
+        columns: input::slice(rt, head.lent(6), &mut columns),
+        starts: input::slice(rt, head.lent(7), &mut starts),
+        lengths: input::slice(rt, head.lent(8), &mut lengths),
+    };
+    let call = Call::from(head.command());
+    let s = lent.step(call, head.state());
+    print!(rt;
+        "{} {call}: {}{}",
+        S::name(),
+        Told(s.answer),
+        Whole(s.state)
+    )?;
+    lent.tell(rt)
+}
+
+pub fn grey(rt: &(impl Print + Input), head: &Head) -> io::Result<()> {
+    step(rt, head, &mut [0u8; 4096], &mut [0; 4096], &mut [0; 4096])
+}
+
+pub fn rate(rt: &(impl Print + Input), head: &Head) -> io::Result<()> {
+    step(
+        rt,
+        head,
+        &mut [0.0f32; 4096],
+        &mut [0.0; 4096],
+        &mut [0.0; 4096],
+    )
+}

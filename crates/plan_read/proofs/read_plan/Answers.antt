@@ -1,0 +1,31 @@
+-- The count, then the stages that the bytes are cut into.
+use mathlib.Core.Path.{◌≡◌, sym, ap, ◌∙◌}
+use mathlib.Core.List.{List}
+use Prim.Native.Nat.{ℕ, ◌/◌}
+use lib.ListN.{length, take}
+use native.Mathlib.Omega.{arith}
+use Rattle.std.proofs.Common.{rules}
+use Rattle.plan_record.specs.Plan.{count_number, plan_of, stages_from, stages_number, plan_number, plan_read, plan_given}
+use Rattle.plan_record.proofs.Exits.{refused_some}
+use Rattle.plan_record.proofs.Laws.{reading_refused, count_refused}
+use Rattle.plan_record.proofs.Named.{counted}
+use Rattle.plan_read.proofs.Chunks.{plan_cut}
+use Rattle.plan_read.proofs.read_plan.Goals as goal
+
+pub returns-in_err-judge_count : goal.returns-in_err-judge_count
+unfolding plan_read plan_number
+returns-in_err-judge_count c =
+    let a = c.args in
+    let e : c.from-n.result ≡ a.count = search rules in
+    reading_refused (plan_of (stages_from a.count a.bytes.now)) c.in_err-judge_count.field-0.0 _ c.from_residual.ensures.1
+    (count_refused a.count (stages_number a.count a.bytes.now) (c.in_err-judge_count.ensures ∙ ap count_number e) (refused_some c.in_err-judge_count.field-0.0))
+
+pub returns : goal.returns
+returns c =
+    let a = c.args in
+    let e : c.from-n.result ≡ a.count = search rules in
+    let n = counted a.count (sym (c.in_ok-judge_count.ensures ∙ ap count_number e)) in
+    let front = c.as_chunks.ensures.front in
+    c.plan_from.ensures ∙ ap (λ (n : ℕ). plan_given (take n c.as_chunks.result.0.now)) e
+    ∙ ap (λ (stages : List (List ℕ)). plan_given (take a.count stages)) front
+    ∙ plan_cut a.bytes.now a.count (length a.bytes.now / 5) (omega arith) (sym (ap length front) ∙ c.as_chunks.ensures.front_len)
