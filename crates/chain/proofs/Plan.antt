@@ -4,12 +4,11 @@ use mathlib.Core.Bool.{Bool, true, false}
 use mathlib.Core.List.{List, [], ◌∷◌, map}
 use Prim.Native.Nat.{ℕ, ◌+◌, ◌-◌, ◌≤◌, ◌<◌}
 use native.Mathlib.Nat.{sub-zero, add-zero}
-use native.Mathlib.Numerals.{add-one}
 use native.Mathlib.Omega.{arith}
 use borrow.Author.Tests.{le-leb, lt-leb, leb-true, leb-false}
 use lib.Dec.{leb}
-use lib.ListN.{length, get_or, take, drop, length-append, length-take, length-drop, drop_of_length-le}
-use lib.Seq.{length-take-le, drop-cons, get_or-take}
+use lib.ListN.{length, get_or, take, drop, length-append, length-take, length-drop}
+use lib.Seq.{length-take-le}
 use Rattle.morph.specs.Picture.{Picture, apply_stage, apply_plan}
 use Rattle.morph.specs.Plan.{plan_cost}
 use Rattle.morph.proofs.Lists.{split, both}
@@ -19,11 +18,10 @@ use Rattle.columns.specs.Inner.{Lent}
 use Rattle.memory.specs.Memory.{Memory, front_in, behind, sound_records, all_sound, Whole, StageHolds, Holds}
 use Rattle.memory.proofs.Records.{test_sound, sound_test}
 use Rattle.plan_record.specs.declared.Stage.{Stage}
-use Rattle.plan_record.specs.declared.Plan.{Plan}
-use Rattle.plan_record.specs.Plan.{used, unused, filter_of, size_of, below_of, cells_of, total}
+use Rattle.plan_record.specs.Plan.{filter_of, size_of, below_of, cells_of, total}
 use Rattle.plan_record.proofs.Laws.{mul_most}
 use Rattle.stage.specs.Inner.{StageStep}
-use Rattle.chain.specs.Inner.{after, Ready, Begins, Leaves, Fronted, PlanStep}
+use Rattle.chain.specs.Inner.{Ready, Begins, Leaves, Fronted, PlanStep}
 use Rattle.chain.proofs.Memory.{Sized, AtLeast, append, append_front, append_behind, lent_rest, rest_behind, rest_back, back_front, back_behind}
 
 -- two parts as long as each other
@@ -226,12 +224,3 @@ module _ {A : Type 0} (K : Samples A) (s : Stage) (ss : List Stage) (H t : ℕ) 
       let m : AtLeast cells (length row) M' = record { values_long = g.values_long; positions_long = g.positions_long; starts_long = g.starts_long; lengths_long = g.lengths_long } in
       plan_later K s ss H t M row ready M' row' c f (omega arith) R row'' d due (rw (← a, ← e) (rw (rest_behind cells (length row) M') at h)) (rest_back cells (length row) M' R)
       (rw (← e) (back_front cells (length row) M' R m)) (rw (← e) (back_behind cells (length row) M' R m))
-
--- ---- the stages from stage i on
-
-module _ (plan : Plan) (i : ℕ) (few : plan.count ≤ 16) (long : length plan.stages ≡ 16) where
-  pub after_none : plan.count ≤ i → after i plan ≡ []
-  after_none h = drop_of_length-le (used plan) {i = i} (rw length-take (omega arith))
-
-  pub after_more : i < plan.count → after i plan ≡ get_or plan.stages i unused ∷ after (i + 1) plan
-  after_more h = drop-cons (used plan) i unused (rw length-take (omega arith)) ∙ rw (get_or-take plan.count plan.stages i unused h, add-one)

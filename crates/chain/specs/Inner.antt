@@ -1,20 +1,15 @@
 -- Inner: only contracts of inner functions, and proofs, cite what stands here; no promise of a public call is made of it.
 -- The stages of a plan on the memory lent: a stage owns the front of it, and the rest of the plan the rest, one look-ahead later.
-use Rattle.std.specs.Prelude.{◌≡◌, Bool, true, List, [], map, ℕ, ◌+◌, ◌-◌, ◌*◌, ◌≤◌, ◌<◌, leb, length, get_or, take, drop}
+use Rattle.std.specs.Prelude.{◌≡◌, Bool, true, List, [], map, ℕ, ◌+◌, ◌-◌, ◌*◌, ◌≤◌, ◌<◌, leb, length, get_or, take}
 use Rattle.morph.specs.Lists.{Each}
 use Rattle.morph.specs.Picture.{Picture, apply_plan}
 use Rattle.morph.specs.Plan.{plan_cost}
 use Rattle.sample.specs.Samples.{Samples}
 use Rattle.plan_record.specs.declared.Stage.{Stage}
-use Rattle.plan_record.specs.declared.Plan.{Plan}
 use Rattle.plan_record.specs.Inner.{Small}
-use Rattle.plan_record.specs.Plan.{used, filter_of, total, size_of, below_of, cells_of}
+use Rattle.plan_record.specs.Plan.{filter_of, total, size_of, below_of, cells_of}
 use Rattle.memory.specs.Memory.{Memory, front_in, behind, sound_records, all_sound, Whole, Holds}
 use Rattle.stage.specs.Inner.{StageStep}
-
--- the stages of a plan from stage i on
-abbrev pub after : ℕ → Plan → List Stage
-after i plan = drop i (used plan)
 
 module _ {A : Type 0} where
   -- the memory is just what these stages need for rows of W pixels, and its records are such as a step takes

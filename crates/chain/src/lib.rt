@@ -6,9 +6,9 @@ ghost use Rattle.std.specs.Prelude.{◌≡◌, ◌≤◌, length};
 ghost use Rattle.plan_record.specs.Plan.{below_of, cells_of};
 ghost use Rattle.plan_record.specs.Inner.{Small};
 ghost use Rattle.memory.specs.Memory.{memory};
-ghost use Rattle.chain.specs.Inner.{after, Ready, Begins, Leaves, Fronted, PlanStep};
+ghost use Rattle.chain.specs.Inner.{Ready, Begins, Leaves, Fronted, PlanStep};
 
-use plan_record::{Plan, Stage};
+use plan_record::Stage;
 use sample::Sample;
 
 // What the stages of a plan made of a step: the comparisons, and whether the last stage's row stands in the row's place.
@@ -67,10 +67,9 @@ fn run_front<S: Sample>(
     }
 }
 
-// The stages of a plan from stage i on, at step t of the plan that they are.
+// The stages of a plan, at step t of the plan that they are.
 pub fn run<S: Sample>(
-    plan: Plan,
-    i: usize,
+    stages: &[Stage],
     rows: usize,
     t: usize,
     values: &mut [S],
@@ -79,19 +78,17 @@ pub fn run<S: Sample>(
     lengths: &mut [u8],
     row: &mut [S],
 ) -> Ran
-    requires { Ready (after i plan) (length row.old) (memory values.old positions.old starts.old lengths.old) × (rows ≤ 4294967297) × (i ≤ plan.count) × (plan.count ≤ 16) }
-    ensures { PlanStep S.samples (after i plan) rows t (memory values.old positions.old starts.old lengths.old) row.old (memory values.new positions.new starts.new lengths.new) row.new result.comparisons result.due }
+    requires { Ready stages.now (length row.old) (memory values.old positions.old starts.old lengths.old) × (rows ≤ 4294967297) }
+    ensures { PlanStep S.samples stages.now rows t (memory values.old positions.old starts.old lengths.old) row.old (memory values.new positions.new starts.new lengths.new) row.new result.comparisons result.due }
 {
-    let count = plan.count;
-    if count <= i {
+    let Some((stage, behind)) = stages.split_first() else {
         return Ran {
             comparisons: 0,
             due: true,
         };
-    }
-    let stage = plan.stages[i];
+    };
     let width = row.len();
-    let f = run_front(stage, rows, t, values, positions, starts, lengths, row);
+    let f = run_front(*stage, rows, t, values, positions, starts, lengths, row);
     let ahead = f.ahead;
     let cells = f.cells;
     if t < ahead {
@@ -101,8 +98,7 @@ pub fn run<S: Sample>(
         };
     }
     let rest = run(
-        plan,
-        i + 1,
+        behind,
         rows,
         t - ahead,
         &mut values[cells..],

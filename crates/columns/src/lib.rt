@@ -36,8 +36,8 @@ fn drain_column<S: Sample>(
     ensures { RecordsMoved S.samples places (length starts.old) (only x (cells_roomed places t)) positions.now starts.old lengths.old starts.new lengths.new }
 {
     let hi = lo + places;
-    let start = morph::wide(starts[x]);
-    let count = morph::wide(lengths[x]);
+    let start = usize::from(starts[x]);
+    let count = usize::from(lengths[x]);
     let gone = queue::cell_goes(&positions[lo..hi], start, count, places, t);
     starts[x] = narrow(queue::slot(start, gone, places));
     lengths[x] = narrow(count - gone);
@@ -75,8 +75,8 @@ pub fn sound(places: usize, starts: &[u8], lengths: &[u8]) -> bool
 {
     let p = narrow(places);
     let mut good = true;
-    for x in 0..starts.len() {
-        good = good & sound_record(p, starts[x], lengths[x]);
+    for (&start, &count) in starts.iter().zip(lengths) {
+        good &= sound_record(p, start, count);
     }
     good
 }
@@ -102,8 +102,8 @@ fn read_column<S: Sample>(
         × (result ≡ step_cost (S.samples.passes kind v) (column_at S.samples places values.old positions.old starts.old lengths.old x)) × (result ≤ 63) }
 {
     let hi = lo + places;
-    let start = morph::wide(starts[x]);
-    let count = morph::wide(lengths[x]);
+    let start = usize::from(starts[x]);
+    let count = usize::from(lengths[x]);
     let e = RowEntry {
         value: v,
         position: t,
@@ -137,8 +137,7 @@ pub fn read<S: Sample>(
 {
     let mut comparisons = 0;
     let mut lo = 0;
-    for x in 0..row.len() {
-        let v = row[x];
+    for (x, &v) in row.iter().enumerate() {
         comparisons += read_column(
             kind, places, values, positions, starts, lengths, lo, x, v, t,
         );
@@ -159,7 +158,7 @@ fn front_of<S: Sample>(
     requires { (x < length starts.now) × (lo + get_or starts.now x 0 < length values.now) × (length positions.now ≡ length values.now) × (s ≤ 4294967800) }
     ensures { (result.value ≡ get_or values.now (lo + get_or starts.now x 0) S.samples.order.blank) × (result.position ≡ row_of s (get_or positions.now (lo + get_or starts.now x 0) 0)) }
 {
-    let at = lo + morph::wide(starts[x]);
+    let at = lo + usize::from(starts[x]);
     queue::lent(values, positions, at, s)
 }
 
@@ -196,7 +195,7 @@ pub fn entry<S: Sample>(
     requires { (places ≤ 63) × (x < length starts.now) × (length values.now ≡ length starts.now * places) × (length positions.now ≡ length values.now) × (get_or starts.now x 0 < places) × (k < places) × (s ≤ 4294967800) }
     ensures { EntryAt S.samples places values.now positions.now starts.now x k s result.value result.position }
 {
-    let start = morph::wide(starts[x]);
+    let start = usize::from(starts[x]);
     let at = x * places + queue::slot(start, k, places);
     queue::lent(values, positions, at, s)
 }

@@ -15,7 +15,7 @@ use Rattle.passes.proofs.Reach.{below_or}
 use mathlib.Core.Logic.{⊎_elim}
 
 -- a place of two lists in a row
-get_d_right : {A : Type 0} (l m : List A) (i k : ℕ) (d : A) → length l ≡ k → k ≤ i → get_or (l ++ m) i d ≡ get_or m (i - k) d
+pub get_d_right : {A : Type 0} (l m : List A) (i k : ℕ) (d : A) → length l ≡ k → k ≤ i → get_or (l ++ m) i d ≡ get_or m (i - k) d
 get_d_right l m i k d e h = let f : length l + (i - k) ≡ i = omega arith in ap (λ (n : ℕ). get_or (l ++ m) n d) (sym f) ∙ get_or-append-add l m (i - k) d
 
 module _ {A : Type 0} (d : A) (pick : A → A → A) (s : ℕ) (xs : List A) where

@@ -71,6 +71,7 @@ pub trait Way {
     const KIND: Kind;
 }
 
+#[derive(Clone, Copy, Debug, PartialEq, Eq)]
 pub struct Smallest;
 
 impl Way for Smallest {
@@ -79,6 +80,7 @@ impl Way for Smallest {
     const KIND: Kind = Kind::Erosion;
 }
 
+#[derive(Clone, Copy, Debug, PartialEq, Eq)]
 pub struct Largest;
 
 impl Way for Largest {

@@ -147,20 +147,30 @@ fn line<S: Choice>(kind: Kind, back: usize, ahead: usize, a: &mut [S], t: &mut [
     }
 }
 
+// ---- rows
+
+// The columns and the rows of a whole picture in one slice, row after row.
+#[derive(Clone, Copy, Debug, PartialEq, Eq)]
+pub struct Grid {
+    pub width: usize,
+    pub rows: usize,
+    ghost rows_fit: { rows ≤ 65535 },
+}
+
 // Each row filtered as a line.
 pub fn across<S: Choice>(
     kind: Kind,
     back: usize,
     ahead: usize,
-    width: usize,
-    rows: usize,
+    grid: Grid,
     picture: &mut [S],
     row: &mut [S],
 )
-    requires { (length picture.old ≡ rows * width) × (width ≤ length row.old) × (back ≤ 255) × (ahead ≤ 255) × Each S.Fair picture.old }
-    ensures { Crossed (order_of kind S.samples.order) width rows back ahead picture.old picture.new × UsedUpTo width row.old row.new }
+    requires { (length picture.old ≡ grid.rows * grid.width) × (grid.width ≤ length row.old) × (back ≤ 255) × (ahead ≤ 255) × Each S.Fair picture.old }
+    ensures { Crossed (order_of kind S.samples.order) grid.width grid.rows back ahead picture.old picture.new × UsedUpTo grid.width row.old row.new }
 {
-    for y in 0..rows {
+    let width = grid.width;
+    for y in 0..grid.rows {
         let lo = y * width;
         let hi = lo + width;
         line(kind, back, ahead, &mut picture[lo..hi], &mut row[..width]);

@@ -5,12 +5,12 @@ use mathlib.Core.Bool.{Bool, true, false, not, ◌||◌, and-false}
 use mathlib.Core.List.{List, [], ◌∷◌, ◌++◌}
 use Prim.Native.Nat.{ℕ, zero, suc, ◌≤◌, ◌<◌, min}
 use native.Mathlib.Omega.{arith}
-use borrow.Author.Tests.{eqb-true, eqb-false, ltb-false, eq-eqb, ne_eqb, le-ltb, lt-ltb, not-false}
+use borrow.Author.Tests.{eqb-true, eqb-false, ltb-false, eq-eqb, ne_eqb, le-ltb, not-false}
 use lib.Dec.{eqb}
 use lib.ListN.{length}
 use Rattle.morph.specs.Numbers.{given, first_of}
 use Rattle.morph.proofs.Lists.{split, neither}
-use Rattle.morph.proofs.Numbers.{first_one, first_zero, given_zero, found, skip}
+use Rattle.morph.proofs.Numbers.{first_one, first_zero, given_zero, skip}
 use Rattle.plan_record.specs.Plan.{plan_ahead}
 use Rattle.picture_state.specs.declared.State.{State}
 use Rattle.picture_state.specs.Numbers.{is_all_read, is_past_last, has_no_drain, state_number, lent_number, offer_number, drain_number}
@@ -102,27 +102,10 @@ asked_accepted S e =
     let l = ltb-false 1 S.plan.count (given_zero 19 _ c) in
     (a, s, omega (arith, s.plan.some))
 
--- its number, way by way
-module _ (S : State) where
-  pub asked_state : (n : ℕ) → n ≡ state_number S → (n ≡ 0 → ⊥) → n ≡ asked_number S
-  unfolding asked_number
-  asked_state n e h = found (state_number S) (several_number S.plan.count ∷ []) e h
-
-  module _ (z : state_number S ≡ 0) where
-    pub asked_several : 1 < S.plan.count → 20 ≡ asked_number S
-    unfolding asked_number
-    asked_several h = skip (state_number S) (several_number S.plan.count ∷ []) z (rw (lt-ltb 1 S.plan.count h))
-
-    pub asked_one : S.plan.count ≤ 1 → 0 ≡ asked_number S
-    unfolding asked_number
-    asked_one h = skip (state_number S) (several_number S.plan.count ∷ []) z (rw (le-ltb 1 S.plan.count h))
-
-  -- and what is judged behind it
-  pub asked_refused : (m n : ℕ) → n ≡ asked_number S → (n ≡ 0 → ⊥) → n ≡ first_of (asked_number S ∷ m ∷ [])
-  asked_refused m n e h = found (asked_number S) (m ∷ []) e h
-
-  pub asked_behind : (m n r : ℕ) → n ≡ asked_number S → n ≡ 0 → r ≡ m → r ≡ first_of (asked_number S ∷ m ∷ [])
-  asked_behind m n r e z q = skip (asked_number S) (m ∷ []) (sym e ∙ z) (q ∙ sym (first_one m))
+-- where nothing is wrong with the state, and its plan has one stage
+pub asked_one : (S : State) → state_number S ≡ 0 → S.plan.count ≤ 1 → 0 ≡ asked_number S
+unfolding asked_number
+asked_one S z h = skip (state_number S) (several_number S.plan.count ∷ []) z (rw (le-ltb 1 S.plan.count h))
 
 -- ---- a row and a drain
 

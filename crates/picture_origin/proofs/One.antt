@@ -12,12 +12,10 @@ use Rattle.morph.specs.Picture.{Picture, apply_plan}
 use Rattle.morph.specs.Plan.{plan_cost}
 use Rattle.sample.specs.Samples.{Samples}
 use Rattle.plan_record.specs.declared.Stage.{Stage}
-use Rattle.plan_record.specs.declared.Plan.{Plan}
-use Rattle.plan_record.specs.Plan.{unused, used, filter_of, total, size_of, below_of, cells_of, cells_needed, records_needed, plan_ahead}
+use Rattle.plan_record.specs.Plan.{used, filter_of, total, size_of, below_of, cells_of, cells_needed, records_needed, plan_ahead}
 use Rattle.memory.specs.Memory.{Memory, front_in, behind, sound_records, all_sound, Whole, StageHolds, Holds}
 use Rattle.memory.proofs.Records.{sound_test}
 use Rattle.chain.specs.Inner.{Fronted}
-use Rattle.chain.proofs.Plan.{after_none, after_more}
 use Rattle.picture_state.specs.declared.State.{State}
 use Rattle.picture_state.specs.declared.Answer.{Answer}
 use Rattle.picture_state.specs.Numbers.{height_of}
@@ -36,10 +34,6 @@ none_more true = refl
 none_more false = refl
 
 -- ---- a plan of one stage
-
--- it is the first of the record's
-pub used_one : (plan : Plan) → plan.count ≡ 1 → length plan.stages ≡ 16 → used plan ≡ get_or plan.stages 0 unused ∷ []
-used_one plan count long = after_more plan 0 (omega arith) long (omega arith) ∙ ap (λ l. get_or plan.stages 0 unused ∷ l) (after_none plan 1 (omega arith) long (omega arith))
 
 module _ {A : Type 0} (K : Samples A) (S : State) (s : Stage) (one : used S.plan ≡ s ∷ []) (count : S.plan.count ≡ 1) where
   pub ahead_one : plan_ahead S.plan ≡ below_of s

@@ -1,11 +1,10 @@
 -- The laws of a start that asks for origins: its number is the plan's with 20, and then the start's.
 use mathlib.Core.Path.{◌≡◌, refl, sym, ap, ◌∙◌, subst}
 use mathlib.Core.List.{List, [], ◌∷◌}
-use Prim.Native.Nat.{ℕ, zero, suc, ◌*◌, ◌<◌, ◌≤◌}
-use borrow.Author.Tests.{lt-ltb, le-ltb}
+use Prim.Native.Nat.{ℕ, zero, suc, ◌*◌}
 use Rattle.morph.specs.Numbers.{first_of}
 use Rattle.morph.proofs.Lists.{length_tabulate}
-use Rattle.morph.proofs.Numbers.{first_one, first_skip, first_found, skip, found}
+use Rattle.morph.proofs.Numbers.{first_one, first_skip, first_found}
 use Rattle.plan_record.specs.declared.Plan.{Plan}
 use Rattle.plan_record.specs.declared.Reading.{Reading}
 use Rattle.plan_record.specs.Plan.{record_number, records_needed, plan_of, stage_out_of, stages_from, plan_number, plan_read}
@@ -19,18 +18,6 @@ use Rattle.picture_origin.specs.Numbers.{several_number, origins_number, origins
 -- the plan's own number, and 20
 abbrev planned : Plan → ℕ
 planned plan = first_of (record_number plan ∷ several_number plan.count ∷ [])
-
--- its number, way by way
-module _ (plan : Plan) where
-  pub planned_record : (n : ℕ) → n ≡ record_number plan → (n ≡ 0 → ⊥) → n ≡ planned plan
-  planned_record n e h = found (record_number plan) (several_number plan.count ∷ []) e h
-
-  module _ (z : record_number plan ≡ 0) where
-    pub planned_several : 1 < plan.count → 20 ≡ planned plan
-    planned_several h = skip (record_number plan) (several_number plan.count ∷ []) z (rw (lt-ltb 1 plan.count h))
-
-    pub planned_one : plan.count ≤ 1 → 0 ≡ planned plan
-    planned_one h = skip (record_number plan) (several_number plan.count ∷ []) z (rw (le-ltb 1 plan.count h))
 
 -- two rules and one more
 first_two : (a b c : ℕ) → first_of (a ∷ b ∷ c ∷ []) ≡ first_of (first_of (a ∷ b ∷ []) ∷ c ∷ [])

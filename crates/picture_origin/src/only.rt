@@ -11,7 +11,5 @@ pub fn stage(state: State) -> Stage
     requires { state.plan.count ≡ 1 }
     ensures { (result ≡ only_stage state) × (used state.plan ≡ only_stage state ∷ []) }
 {
-    let own = state.plan;
-    let plan = picture_state::whole(own);
-    plan.stages[0]
+    state.plan.stages[0]
 }

@@ -1,20 +1,19 @@
 -- The laws of a start: its number, the records that it clears, and that the state and the memory afterwards are those before the first step of any picture.
 use mathlib.Core.Path.{◌≡◌, refl, sym, ap, ◌∙◌, subst}
 use mathlib.Core.Bool.{Bool, true, false, not, ◌||◌}
-use mathlib.Core.List.{List, [], ◌∷◌, ◌++◌}
+use mathlib.Core.List.{List, [], ◌∷◌}
 use Prim.Native.Nat.{ℕ, zero, suc, ◌+◌, ◌-◌, ◌*◌, ◌≤◌, ◌<◌, min}
 use native.Mathlib.Nat.{mul-le-mul_right}
-use native.Mathlib.Numerals.{add-one}
 use native.Mathlib.Omega.{arith}
 use borrow.Author.Tests.{le-ltb, eq-eqb}
 use lib.Dec.{eqb}
-use lib.ListN.{length, get_or, take, drop, set, replicate, length-append, length-take, length-drop, length-replicate, get_or-replicate, get_or-append, length-map}
-use lib.Seq.{drop-cons, set_at, get_or-take, get_or-drop, length-take-le}
+use lib.ListN.{length, get_or, take, drop, replicate, length-append, length-take, length-drop, length-replicate, get_or-replicate, get_or-append, length-map}
+use lib.Seq.{get_or-take, get_or-drop, length-take-le}
 use Rattle.morph.specs.Picture.{Picture, apply_stage}
 use Rattle.morph.specs.Plan.{column_queue}
 use Rattle.morph.proofs.Line.{queue_start}
 use Rattle.morph.specs.Numbers.{given}
-use Rattle.morph.proofs.Numbers.{first_one, first_skip, first_found, first_zero, skip, found}
+use Rattle.morph.proofs.Numbers.{first_one, first_skip, first_found, first_zero, skip}
 use Rattle.sample.specs.Samples.{Samples}
 use Rattle.morph.specs.Cell.{read_at}
 use Rattle.memory.specs.Memory.{column_at, Memory, memory, front_in, behind, sound_records, all_sound, StageHolds, Holds}
@@ -53,20 +52,8 @@ module _ (plan : Plan) (sample width rows cells records : ℕ) where
   abbrev after_plan : List ℕ
   after_plan = sample_number sample ∷ after_sample
 
-  pub start_plan : (n : ℕ) → n ≡ record_number plan → (n ≡ 0 → ⊥) → n ≡ number
-  unfolding start_number
-  start_plan n e h = found (record_number plan) after_plan e h
-
   module _ (a : record_number plan ≡ 0) where
-    pub start_sample : (n : ℕ) → n ≡ sample_number sample → (n ≡ 0 → ⊥) → n ≡ number
-    unfolding start_number
-    start_sample n e h = skip (record_number plan) after_plan a (found (sample_number sample) after_sample e h)
-
     module _ (b : sample_number sample ≡ 0) where
-      pub start_size : (n : ℕ) → n ≡ size_number width rows → (n ≡ 0 → ⊥) → n ≡ number
-      unfolding start_number
-      start_size n e h = skip (record_number plan) after_plan a (skip (sample_number sample) after_sample b (found (size_number width rows) after_size e h))
-
       pub start_memory : size_number width rows ≡ 0 → (n : ℕ) → n ≡ memory_number plan width cells records → n ≡ number
       unfolding start_number
       start_memory c n e =
@@ -84,23 +71,6 @@ module _ (plan : Plan) (sample width rows cells records : ℕ) where
       (a, b, c, d)
 
 -- ---- clearing
-
-zeros_more : (i : ℕ) (l : List ℕ) → replicate i 0 ++ 0 ∷ l ≡ replicate (suc i) 0 ++ l
-zeros_more zero l = refl
-zeros_more (suc i) l = ap (λ m. 0 ∷ m) (zeros_more i l)
-
-pub clear_first : (l : List ℕ) → l ≡ cleared 0 l
-unfolding cleared
-clear_first l = refl
-
-pub clear_next : (l bytes : List ℕ) (i : ℕ) → i < length l → bytes ≡ cleared i l → set bytes i 0 ≡ cleared (i + 1) l
-unfolding cleared
-clear_next l bytes i h e =
-    let f : bytes ≡ replicate i 0 ++ get_or l i 0 ∷ drop (suc i) l = e ∙ ap (λ d. replicate i 0 ++ d) (drop-cons l i 0 h) in
-    ap (λ b. set b i 0) f ∙ set_at (replicate i 0) (get_or l i 0) (drop (suc i) l) 0 i (length-replicate i 0) ∙ zeros_more i (drop (suc i) l) ∙ ap (λ k. replicate k 0 ++ drop k l) (sym (add-one i))
-
-pub clear_last : (n i : ℕ) (l bytes : List ℕ) → n ≤ i → i ≤ n → bytes ≡ cleared i l → bytes ≡ cleared n l
-clear_last n i l bytes h k e = let q : i ≡ n = omega arith in e ∙ ap (λ m. cleared m l) q
 
 pub cleared_at : (n : ℕ) (l : List ℕ) (i : ℕ) → i < n → get_or (cleared n l) i 0 ≡ 0
 unfolding cleared
@@ -132,15 +102,6 @@ module _ (number needed : ℕ) (starts lengths : List ℕ) where
   module _ (first : State) where
     pub start_refused : (n : ℕ) (r : Started) → n ≡ number → (n ≡ 0 → ⊥) → r.number ≡ n → r.state ≡ state_of_none → PictureStart number first needed starts lengths starts lengths r
     start_refused n r e h q s = record { told = q ∙ e; refusal = λ _. (s, refl, refl); accepted = λ z. absurd (h (e ∙ z)) }
-
-    module _ (n : ℕ) (starts' lengths' : List ℕ) (h : Emptied number needed starts lengths starts' lengths' n) where
-      pub emptied_refused : (r : Started) → (n ≡ 0 → ⊥) → r.number ≡ n → r.state ≡ state_of_none → PictureStart number first needed starts lengths starts' lengths' r
-      emptied_refused r k q s = record { told = q ∙ h.told; refusal = λ z. let (a, b) = h.refusal z in (s, a, b); accepted = λ z. absurd (k (h.told ∙ z)) }
-
-      pub emptied_went : (s : State) → n ≡ 0 → s ≡ first → PictureStart number first needed starts lengths starts' lengths' (record { number = 0; state = s })
-      emptied_went s z e =
-          let t : number ≡ 0 = sym h.told ∙ z in
-          record { told = sym t; refusal = λ k. absurd (k t); accepted = λ _. let (a, b) = h.accepted t in (e, a, b) }
 
 -- "the answer, the state and all lent cells afterwards follow from its inputs alone"
 abbrev started : ℕ → State → Started

@@ -1,14 +1,14 @@
 -- The laws of a stop: its number way by way, that its state breaks no rule, and that its answer is one.
 use mathlib.Core.Path.{◌≡◌, refl, sym, ap, ◌∙◌}
-use mathlib.Core.Bool.{true, false, not, ◌||◌, false≢true}
+use mathlib.Core.Bool.{false, not, ◌||◌, false≢true}
 use mathlib.Core.List.{List, [], ◌∷◌}
 use Prim.Native.Nat.{ℕ, zero, suc, ◌+◌, ◌<◌}
 use native.Mathlib.Omega.{arith}
-use borrow.Author.Tests.{eqb-true, eq-eqb, ne_eqb, eqb-false, ltb-false, le-ltb, not-false}
+use borrow.Author.Tests.{eqb-true, ne_eqb, eqb-false, ltb-false, le-ltb, not-false}
 use lib.Dec.{eqb}
 use Rattle.morph.specs.Numbers.{given}
 use Rattle.morph.proofs.Lists.{neither}
-use Rattle.morph.proofs.Numbers.{first_zero, given_zero, found, skip}
+use Rattle.morph.proofs.Numbers.{first_zero, given_zero, skip}
 use Rattle.plan_record.specs.Numbers.{sample_number}
 use Rattle.plan_record.specs.Plan.{record_number, plan_ahead}
 use Rattle.picture_state.specs.declared.State.{State}
@@ -35,20 +35,8 @@ module _ (S : State) where
   abbrev after_state : List ℕ
   after_state = given 9 (is_not_open S.ending) ∷ after_nine
 
-  pub stop_state : (n : ℕ) → n ≡ state_number S → (n ≡ 0 → ⊥) → n ≡ stop_number S
-  unfolding stop_number
-  stop_state n e h = found (state_number S) after_state e h
-
   module _ (a : state_number S ≡ 0) where
-    pub stop_nine : is_not_open S.ending ≡ true → 9 ≡ stop_number S
-    unfolding stop_number
-    stop_nine b = skip (state_number S) after_state a (rw b)
-
     module _ (b : is_not_open S.ending ≡ false) where
-      pub stop_none : S.step ≡ 0 → 4 ≡ stop_number S
-      unfolding stop_number
-      stop_none c = skip (state_number S) after_state a (rw (b, eq-eqb S.step 0 c))
-
       pub stop_all : (S.step ≡ 0 → ⊥) → 0 ≡ stop_number S
       unfolding stop_number
       stop_all c = skip (state_number S) after_state a (rw (b, ne_eqb S.step 0 c))
@@ -73,12 +61,6 @@ module _ (S : State) where
       let f = eqb-true (size_in S.ending S.width S.rows) 0 (not-false _ d) in
       let (x, y) = stopped_size S.ending S.width S.rows (plan_ahead S.plan) S.step o l f b in
       rw (c, x, y)
-
-  pub stop_refused : (n : ℕ) → n ≡ stop_number S → (n ≡ 0 → ⊥) → PictureStop S (record { number = n; state = S })
-  stop_refused n e h = record { told = e; refusal = λ _. refl; accepted = λ z. absurd (h (e ∙ z)) }
-
-  pub stop_went : (n : ℕ) → n ≡ stop_number S → n ≡ 0 → PictureStop S (record { number = 0; state = stopped_state S })
-  stop_went n e z = let y : stop_number S ≡ 0 = sym e ∙ z in record { told = sym y; refusal = λ k. absurd (k y); accepted = λ _. refl }
 
   -- "the answer, the state .. afterwards follow from its inputs alone"
   stop_same : (r q : Stopping) → r.number ≡ q.number → r.state ≡ q.state → r ≡ q

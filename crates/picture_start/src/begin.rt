@@ -1,16 +1,19 @@
 // Starting a run: the state before the first step, and the column records of empty queues. What open runs share with it stands here too.
 
 ghost use Rattle.std.specs.Prelude.{◌≡◌, ◌≤◌, min, length};
+ghost use Rattle.morph.specs.Refusals.{refusal_number, said};
 ghost use Rattle.plan_record.specs.Plan.{plan_of, stages_from, records_needed};
 ghost use Rattle.picture_start.specs.Start.{PictureStart, state_from, first_state_of, state_of_none, cleared, start_number, numbers_number};
 ghost use Rattle.picture_start.specs.Inner.{Emptied};
 
 use crate::Started;
-use picture_state::judging::{judge_memory, shorter};
+use morph::Refusal;
+use picture_state::judging::judge_memory;
 use picture_state::{Ending, State};
 use plan_record::Plan;
 
-// The number of a start: 1, or stage by stage 3; 5, 4, 6.
+// A start is refused 1, or stage by stage 3; 5, 4, 6.
+#[tactic(auto, unfolding(crate::specs::Start::start_number))]
 fn judge_start(
     plan: Plan,
     sample: u8,
@@ -18,21 +21,12 @@ fn judge_start(
     rows: usize,
     cells: usize,
     records: usize,
-) -> u8
-    ensures { result ≡ start_number plan sample width rows cells records }
+) -> Result<(), Refusal>
+    ensures { said result ≡ start_number plan sample width rows cells records }
 {
-    let number = plan_record::judge(plan);
-    if number != 0 {
-        return number;
-    }
-    let number = plan_record::judge_sample(sample);
-    if number != 0 {
-        return number;
-    }
-    let number = plan_record::judge_size(width, rows);
-    if number != 0 {
-        return number;
-    }
+    plan_record::judge(plan)?;
+    plan_record::judge_sample(sample)?;
+    plan_record::judge_size(width, rows)?;
     judge_memory(plan, width, cells, records)
 }
 
@@ -41,11 +35,7 @@ fn clear(n: usize, bytes: &mut [u8])
     requires { n ≤ length bytes.old }
     ensures { bytes.new ≡ cleared n bytes.old }
 {
-    let mut i = 0;
-    while i < n {
-        bytes[i] = 0;
-        i += 1;
-    }
+    bytes[..n].fill(0);
 }
 
 // The state before the first step. It keeps the plan's stages alone: what the other places of the record held is not handed on.
@@ -55,26 +45,27 @@ pub fn first_state(plan: Plan, sample: u8, width: usize, ending: Ending, rows: u
 {
     State {
         plan: plan_record::trimmed(plan),
-        sample: sample,
-        width: width,
-        ending: ending,
-        rows: rows,
+        sample,
+        width,
+        ending,
+        rows,
         step: 0,
     }
 }
 
-// The answer of a refused start.
-pub fn not_started(number: u8) -> Started
-    ensures { (result.number ≡ number) × (result.state ≡ state_of_none) }
-{
-    let none = plan_record::empty();
-    Started {
-        number: number,
-        state: first_state(none, 0, 0, Ending::Fixed, 0),
+// A refused start hands back all zeros.
+impl From<Refusal> for Started {
+    ghost from_gives = { λ refusal r. (r.number ≡ refusal_number refusal) × (r.state ≡ state_of_none) };
+
+    fn from(refusal: Refusal) -> Started {
+        Started {
+            number: refusal.number(),
+            state: first_state(plan_record::empty(), 0, 0, Ending::Fixed, 0),
+        }
     }
 }
 
-// A start but for its state: the number, and all queues empty where that is 0.
+// A start but for its state: all queues empty, where nothing is refused.
 pub fn empties(
     plan: Plan,
     sample: u8,
@@ -83,18 +74,15 @@ pub fn empties(
     cells: usize,
     starts: &mut [u8],
     lengths: &mut [u8],
-) -> u8
-    ensures { Emptied (start_number plan sample width rows cells (min (length starts.old) (length lengths.old))) (records_needed plan width) starts.old lengths.old starts.new lengths.new result }
+) -> Result<(), Refusal>
+    ensures { Emptied (start_number plan sample width rows cells (min (length starts.old) (length lengths.old))) (records_needed plan width) starts.old lengths.old starts.new lengths.new (said result) }
 {
-    let lent = shorter(starts.len(), lengths.len());
-    let number = judge_start(plan, sample, width, rows, cells, lent);
-    if number != 0 {
-        return number;
-    }
+    let lent = starts.len().min(lengths.len());
+    judge_start(plan, sample, width, rows, cells, lent)?;
     let records = plan_record::records(plan, width);
     clear(records, starts);
     clear(records, lengths);
-    0
+    Ok(())
 }
 
 // A run of a plan over a picture of that size, with so many cells lent: the state before the first step, and all queues empty.
@@ -109,13 +97,12 @@ pub fn start(
 ) -> Started
     ensures { PictureStart (start_number plan sample width rows cells (min (length starts.old) (length lengths.old))) (first_state_of plan sample width rows) (records_needed plan width) starts.old lengths.old starts.new lengths.new result }
 {
-    let number = empties(plan, sample, width, rows, cells, starts, lengths);
-    if number != 0 {
-        return not_started(number);
-    }
-    Started {
-        number: 0,
-        state: first_state(plan, sample, width, Ending::Fixed, rows),
+    match empties(plan, sample, width, rows, cells, starts, lengths) {
+        Ok(()) => Started {
+            number: 0,
+            state: first_state(plan, sample, width, Ending::Fixed, rows),
+        },
+        Err(refusal) => Started::from(refusal),
     }
 }
 
@@ -132,11 +119,8 @@ pub fn start_numbers(
 ) -> Started
     ensures { PictureStart (numbers_number count stages.now sample width rows cells (min (length starts.old) (length lengths.old))) (first_state_of (plan_of (stages_from count stages.now)) sample width rows) (records_needed (plan_of (stages_from count stages.now)) width) starts.old lengths.old starts.new lengths.new result }
 {
-    let reading = plan_read::read(count, stages);
-    let number = reading.number;
-    if number != 0 {
-        return not_started(number);
+    match plan_read::read_plan(count, stages) {
+        Ok(plan) => start(plan, sample, width, rows, cells, starts, lengths),
+        Err(refusal) => Started::from(refusal),
     }
-    let plan = reading.plan;
-    start(plan, sample, width, rows, cells, starts, lengths)
 }

@@ -8,19 +8,20 @@ mod begin; // begin.rt: starting a run
 mod open; // open.rt: starting an open run
 mod end; // end.rt: the stop of an open run
 
-pub use begin::{not_started, start, start_numbers};
+pub use begin::{start, start_numbers};
 pub use end::stop;
 pub use open::{start_open, start_open_numbers};
 
-// What a start gives: 0 and the state before the first step, or a refusal's number and all zeros.
-#[derive(Clone, Copy)]
+// What a start gives: 0 and the state before the first step, or a refusal's number and all zeros. It stays a record, and no Result:
+// document 01 says that "a refused start .. hands back all zeros, kind erosion" (`PictureStart.refusal`).
+#[derive(Clone, Copy, Debug, PartialEq, Eq)]
 pub struct Started {
     pub number: u8,
     pub state: State,
 }
 
-// What a stop gives: 0 and the state after it, or a refusal's number and the state as given.
-#[derive(Clone, Copy)]
+// What a stop gives: 0 and the state after it, or a refusal's number and the state as given (`PictureStop.refusal`), so that no Result holds it.
+#[derive(Clone, Copy, Debug, PartialEq, Eq)]
 pub struct Stopping {
     pub number: u8,
     pub state: State,

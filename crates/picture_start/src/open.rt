@@ -5,7 +5,7 @@ ghost use Rattle.plan_record.specs.Plan.{plan_of, stages_from, records_needed};
 ghost use Rattle.picture_start.specs.Start.{PictureStart, open_state, open_number, open_numbers_number};
 
 use crate::Started;
-use crate::begin::{empties, first_state, not_started};
+use crate::begin::{empties, first_state};
 use picture_state::Ending;
 use plan_record::Plan;
 
@@ -20,13 +20,12 @@ pub fn start_open(
 ) -> Started
     ensures { PictureStart (open_number plan sample width cells (min (length starts.old) (length lengths.old))) (open_state plan sample width) (records_needed plan width) starts.old lengths.old starts.new lengths.new result }
 {
-    let number = empties(plan, sample, width, 1, cells, starts, lengths);
-    if number != 0 {
-        return not_started(number);
-    }
-    Started {
-        number: 0,
-        state: first_state(plan, sample, width, Ending::Open, 0),
+    match empties(plan, sample, width, 1, cells, starts, lengths) {
+        Ok(()) => Started {
+            number: 0,
+            state: first_state(plan, sample, width, Ending::Open, 0),
+        },
+        Err(refusal) => Started::from(refusal),
     }
 }
 
@@ -42,11 +41,8 @@ pub fn start_open_numbers(
 ) -> Started
     ensures { PictureStart (open_numbers_number count stages.now sample width cells (min (length starts.old) (length lengths.old))) (open_state (plan_of (stages_from count stages.now)) sample width) (records_needed (plan_of (stages_from count stages.now)) width) starts.old lengths.old starts.new lengths.new result }
 {
-    let reading = plan_read::read(count, stages);
-    let number = reading.number;
-    if number != 0 {
-        return not_started(number);
+    match plan_read::read_plan(count, stages) {
+        Ok(plan) => start_open(plan, sample, width, cells, starts, lengths),
+        Err(refusal) => Started::from(refusal),
     }
-    let plan = reading.plan;
-    start_open(plan, sample, width, cells, starts, lengths)
 }

@@ -41,9 +41,9 @@ fn advance<S: Sample>(
     let t = state.step;
     let cells = plan_record::cells(plan, width);
     let records = plan_record::records(plan, width);
+    let stages = &plan.stages[..plan.count];
     let ran = chain::run(
-        plan,
-        0,
+        stages,
         rows,
         t,
         &mut values[..cells],

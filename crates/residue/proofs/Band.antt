@@ -1,13 +1,6 @@
 -- The band: a row's sum and its test are those of one part of the row, or 0 and false; which pixels are counted.
-use mathlib.Core.Path.{◌≡◌, sym, ap, ◌∙◌}
-use mathlib.Core.Bool.{Bool, true, false, cond, ◌&&◌, false≢true}
-use mathlib.Core.List.{List}
-use Prim.Native.Nat.{ℕ, ◌+◌, ◌-◌, ◌*◌, ◌≤◌, ◌<◌}
-use native.Mathlib.Omega.{arith}
-use borrow.Author.Tests.{leb-true, leb-false, ltb-true, le-leb, lt-leb, lt-ltb, le-ltb}
-use lib.Dec.{leb, ltb}
-use lib.ListN.{length, take, drop, get_or, length-take, length-drop}
-use lib.Seq.{get_or-take, get_or-drop}
+use Rattle.std.proofs.Common.{◌≡◌, sym, ap, ◌∙◌, Bool, true, false, cond, ◌&&◌, List, ℕ, ◌+◌, ◌-◌, ◌*◌, ◌≤◌, ◌<◌, arith, leb-true, leb-false, ltb-true, le-leb, lt-ltb, le-ltb, leb, ltb, length, take, drop, get_or, length-take, length-drop, get_or-take, get_or-drop}
+use Rattle.std.proofs.lemmas.Bool.{false≢true, lt-leb}
 use Rattle.morph.specs.Lists.{sum_to}
 use Rattle.morph.proofs.Lists.{both, neither, split}
 use Rattle.residue.specs.Residue.{in_band, counted_at, empty_band, some_to, darker, row_residue, negative}

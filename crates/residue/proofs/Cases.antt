@@ -1,8 +1,6 @@
 -- The cases hold. By which idea: each side is computed.
-use mathlib.Core.Path.{◌≡◌, refl}
+use Rattle.std.proofs.Common.{◌≡◌, refl, ℕ, zero, suc, ◌+◌, ◌<◌, arith}
 use mathlib.Core.List.{flatten}
-use Prim.Native.Nat.{ℕ, zero, suc, ◌+◌, ◌<◌}
-use native.Mathlib.Omega.{arith}
 use Rattle.morph.specs.Grey.{grey}
 use Rattle.morph.specs.Picture.{pixel_at, apply_stage, apply_plan}
 use Rattle.residue.specs.Residue.{row_residue, negative, residue_number, picture_residue}

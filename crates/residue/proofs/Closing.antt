@@ -1,14 +1,9 @@
 -- Why only the band is counted: from a counted pixel no window of the closing is cut, and from no other; so what lies beyond the picture's edge has no part in its value. And a closing's own rows are never refused 16.
-use mathlib.Core.Path.{◌≡◌, refl, sym, ap, ◌∙◌}
-use mathlib.Core.Bool.{true, false}
-use mathlib.Core.List.{List, [], ◌∷◌, map, flatten}
-use Prim.Native.Nat.{ℕ, zero, suc, ◌+◌, ◌-◌, ◌*◌, ◌≤◌, ◌<◌}
-use native.Mathlib.Nat.{not-suc-le-zero}
-use native.Mathlib.Omega.{arith}
-use borrow.Author.Tests.{leb-true, leb-false, lt-leb, le-ltb, eq-eqb}
-use lib.Dec.{leb}
-use lib.ListN.{length, get_or, length-map}
-use lib.Seq.{slice, length-slice, ext_get_or, get_or-take, get_or-drop}
+use Rattle.std.proofs.Common.{◌≡◌, refl, sym, ap, ◌∙◌, true, false, List, [], ◌∷◌, map, ℕ, zero, suc, ◌+◌, ◌-◌, ◌*◌, ◌≤◌, ◌<◌, not-suc-le-zero, arith, leb-true, leb-false, le-ltb, eq-eqb, leb, length, get_or, ext_get_or, get_or-take, get_or-drop}
+use Rattle.std.proofs.lemmas.Bool.{lt-leb}
+use Rattle.std.proofs.lemmas.List.{length-map}
+use Rattle.std.proofs.Math.Seq.{slice, length-slice}
+use mathlib.Core.List.{flatten}
 use Rattle.morph.specs.Lists.{tabulate}
 use Rattle.morph.specs.Numbers.{extent_number}
 use Rattle.morph.specs.Order.{Order}

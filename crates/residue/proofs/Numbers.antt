@@ -1,10 +1,6 @@
 -- The numbers that do not look at a pixel: the first broken rule of 3, 4, 7, 21, and what holds where none is broken.
-use mathlib.Core.Path.{◌≡◌, refl, sym}
-use mathlib.Core.Bool.{not}
-use mathlib.Core.List.{List, [], ◌∷◌}
-use Prim.Native.Nat.{ℕ, zero, suc, ◌+◌, ◌*◌, ◌≤◌, ◌<◌}
-use borrow.Author.Tests.{leb-false, lt-leb, eqb-true, eq-eqb, not-false}
-use lib.Dec.{eqb, leb}
+use Rattle.std.proofs.Common.{◌≡◌, refl, sym, not, List, [], ◌∷◌, ℕ, zero, suc, ◌+◌, ◌*◌, ◌≤◌, ◌<◌, leb-false, eqb-true, eq-eqb, eqb, leb}
+use Rattle.std.proofs.lemmas.Bool.{lt-leb, not-false}
 use Rattle.morph.specs.Lists.{Each}
 use Rattle.morph.specs.Numbers.{given, first_of, outside, extent_number}
 use Rattle.morph.proofs.Lists.{neither}

@@ -1,10 +1,6 @@
 -- A total over the first n places, of which a sum is one and "some place has it" another: places that add nothing can be left out at both ends.
 -- By which idea: all that is asked of the total is that one place more goes by the total so far and by what that place has.
-use mathlib.Core.Path.{◌≡◌, refl, sym, ap, ◌∙◌}
-use mathlib.Core.Bool.{false}
-use Prim.Native.Nat.{ℕ, zero, suc, ◌+◌, ◌-◌, ◌≤◌, ◌<◌}
-use native.Mathlib.Nat.{add-zero, add-suc}
-use native.Mathlib.Omega.{arith}
+use Rattle.std.proofs.Common.{◌≡◌, refl, sym, ap, ◌∙◌, false, ℕ, zero, suc, ◌+◌, ◌-◌, ◌≤◌, ◌<◌, add-zero, add-suc, arith}
 use Rattle.morph.specs.Lists.{sum_to}
 use Rattle.residue.specs.Residue.{some_to}
 

@@ -1,13 +1,7 @@
 -- The laws of a stage's own step: reading a row, draining, and the row that is due. By which idea: each column is a line over the across-results (`column_queue`), and its
 -- front after step y + F is the stage's answer in row y (`stage_front`).
-use mathlib.Core.Path.{◌≡◌, refl, sym, ap, ◌∙◌, subst}
-use mathlib.Core.Bool.{true}
-use mathlib.Core.List.{List, [], map}
-use Prim.Native.Nat.{ℕ, suc, ◌+◌, ◌-◌, ◌*◌, ◌≤◌, ◌<◌, min}
-use native.Mathlib.Omega.{arith}
-use borrow.Author.Tests.{lt-ltb}
-use lib.ListN.{length, get_or, length-map}
-use lib.Seq.{ext_get_or}
+use Rattle.std.proofs.Common.{◌≡◌, refl, sym, ap, ◌∙◌, subst, true, List, [], map, ℕ, suc, ◌+◌, ◌-◌, ◌*◌, ◌≤◌, ◌<◌, min, arith, lt-ltb, length, get_or, ext_get_or}
+use Rattle.std.proofs.lemmas.List.{length-map}
 use Rattle.morph.specs.declared.Kind.{Kind}
 use Rattle.morph.specs.declared.Kind.TheVariants.{Erosion, Dilation}
 use Rattle.morph.specs.Order.{Order, order_of, reach_back, ahead_of}

@@ -1,77 +1,73 @@
--- A row that takes the better of itself and another row, pixel by pixel in place: the two rows lie apart.
-use mathlib.Core.Path.{◌≡◌, refl, ap, ◌∙◌}
-use mathlib.Core.List.{List}
-use mathlib.Core.Logic.{◌⊎◌, inl, inr, ⊎_elim}
+-- Rows that take the better of themselves and of other rows, pixel by pixel in place: the picture is cut between the two.
+use mathlib.Core.Path.{◌≡◌, refl, sym, ap, ◌∙◌}
+use mathlib.Core.List.{List, ◌++◌, append_assoc}
+use mathlib.Core.Logic.{◌⊎◌, ⊎_elim}
 use Prim.Native.Nat.{ℕ, suc, ◌+◌, ◌-◌, ◌*◌, ◌≤◌, ◌<◌}
-use native.Mathlib.Nat.{eq-or-lt_of_le, mul-le-mul_right, suc-mul}
+use native.Mathlib.Nat.{mul-le-mul_right, suc-mul}
 use native.Mathlib.Omega.{arith}
-use lib.ListN.{length, get_or, set, length-set}
-use lib.Seq.{get_or-set_same, get_or-set_other}
-use Rattle.sweep.specs.Inner.{Over, Climbed}
+use borrow.Rule.Slice.PartMut.{put_mid, mid_of, post_of, put_same}
+use lib.ListN.{length, get_or, take, drop, length-append, length-take, length-drop, get_or-append}
+use lib.Seq.{get_or-append-add, get_or-take, get_or-drop}
+use Rattle.std.proofs.Common.{take-append-drop}
+use Rattle.morph.proofs.Lists.{length_tabulate, get_d_tabulate}
+use Rattle.passes.proofs.Pass.{get_d_right}
+use Rattle.sweep.specs.Inner.{met, Over, Climbed}
 
--- the first i places of the row have taken theirs, and all else is as it was
-pub record Overing {A : Type 0} (blank : A) (pick : A → A → A) (W at from i : ℕ) (xs l : List A) : Type 0 where
-  pub long : length l ≡ length xs
-  pub within : i ≤ W
-  pub fits : at + W ≤ length xs
-  pub fits' : from + W ≤ length xs
-  pub apart : (at + W ≤ from) ⊎ (from + W ≤ at)
-  pub done : (x : ℕ) → x < i → get_or l (at + x) blank ≡ pick (get_or xs (at + x) blank) (get_or xs (from + x) blank)
-  pub left : (k : ℕ) → (k < at) ⊎ (at + i ≤ k) → get_or l k blank ≡ get_or xs k blank
+module _ {A : Type 0} (blank : A) (pick : A → A → A) where
+  -- the middle of three parts is replaced
+  over_parts : (p ys zs q l l' : List A) (W at from : ℕ) → length p ≡ at → length ys ≡ W → l ≡ p ++ (ys ++ q) → l' ≡ p ++ (met blank pick ys zs ++ q)
+      → ((x : ℕ) → x < W → get_or zs x blank ≡ get_or l (from + x) blank) → Over blank pick W at from l l'
+  over_parts p ys zs q l l' W at from n m e e' f = record {
+    long = rw (e, e', length-append, length-append, length-append, length-append, long) refl;
+    there = λ x h.
+        let here : get_or ys x blank ≡ get_or l (at + x) blank = rw e (sym (along (ys ++ q) x ∙ get_or-append ys q blank x (rw m h))) in
+        rw e' (along (M ++ q) x ∙ get_or-append M q blank x (rw long (rw m h)) ∙ get_d_tabulate (length ys) _ x blank (rw m h) ∙ rw (here, f x h) refl);
+    elsewhere = λ i d. ⊎_elim
+        (λ (u : i < at). rw (e, e') (get_or-append p (M ++ q) blank i (rw n u) ∙ sym (get_or-append p (ys ++ q) blank i (rw n u))))
+        (λ (u : at + W ≤ i). rw (e, e') (past M (long ∙ m) i u ∙ sym (past ys m i u))) d;
+  }
+    where
+      M : List A
+      M = met blank pick ys zs
 
-module _ {A : Type 0} (blank : A) (pick : A → A → A) (W at from : ℕ) (xs : List A) where
-  pub over_start : (at + W ≤ length xs) × (from + W ≤ length xs) × ((at + W ≤ from) ⊎ (from + W ≤ at)) → Overing blank pick W at from 0 xs xs
-  over_start (a, b, c) = record { long = refl; within = omega arith; fits = a; fits' = b; apart = c; done = λ x h. absurd (omega arith); left = λ k h. refl }
+      long : length M ≡ length ys
+      long = length_tabulate (length ys) _
 
-  module _ (i : ℕ) (l : List A) (o : Overing blank pick W at from i xs l) where
-    pub over_end : W ≤ i → Over blank pick W at from xs l
-    over_end h = record { long = o.long; there = λ x k. o.done x (omega arith); elsewhere = λ k d. o.left k (⊎_elim (λ p. inl p) (λ (p : at + W ≤ k). inr (omega (arith, o.within))) d) }
+      along : (r : List A) (x : ℕ) → get_or (p ++ r) (at + x) blank ≡ get_or r x blank
+      along r x = ap (λ (k : ℕ). get_or (p ++ r) (k + x) blank) (sym n) ∙ get_or-append-add p r x blank
 
-    module _ (h : i < W) where
-      from_left : get_or l (from + i) blank ≡ get_or xs (from + i) blank
-      from_left = o.left (from + i) (⊎_elim (λ (p : at + W ≤ from). inr (omega arith)) (λ (p : from + W ≤ at). inl (omega arith)) o.apart)
+      past : (r : List A) → length r ≡ W → (i : ℕ) → at + W ≤ i → get_or (p ++ (r ++ q)) i blank ≡ get_or q (i - at - W) blank
+      past r k i u = get_d_right p (r ++ q) i at blank n (omega arith) ∙ get_d_right r q (i - at) W blank k (omega arith)
 
-      pub over_next : (v : A) → v ≡ pick (get_or l (at + i) blank) (get_or l (from + i) blank) → Overing blank pick W at from (i + 1) xs (set l (at + i) v)
-      over_next v e = record {
-        long = length-set l (at + i) v ∙ o.long;
-        within = omega arith;
-        fits = o.fits;
-        fits' = o.fits';
-        apart = o.apart;
-        done = λ x p. ⊎_elim
-            (λ (q : x ≡ i). rw q (get_or-set_same l (at + i) v blank (omega (arith, o.long, o.fits)) ∙ e ∙ rw (o.left (at + i) (inr (omega arith)), from_left) refl))
-            (λ (q : x < i). get_or-set_other l (at + i) (at + x) v blank (λ (z : at + x ≡ at + i). omega arith) ∙ o.done x q) (eq-or-lt_of_le (omega arith));
-        left = λ k d. ⊎_elim
-            (λ (q : k < at). get_or-set_other l (at + i) k v blank (λ (z : k ≡ at + i). omega arith) ∙ o.left k (inl q))
-            (λ (q : at + (i + 1) ≤ k). get_or-set_other l (at + i) k v blank (λ (z : k ≡ at + i). omega arith) ∙ o.left k (inr (omega arith))) d;
-      }
+  module _ (l above below : List A) (mid W : ℕ) (e : l ≡ above ++ below) (n : length above ≡ mid) where
+    -- rows above the cut take from the first ones below it
+    pub over_below : (at k : ℕ) (ys : List A) → k ≡ W → at + W ≤ mid → mid + W ≤ length l → ys ≡ met blank pick (take k (drop at above)) (take W below) → Over blank pick W at mid l (put_mid at k above ys ++ below)
+    over_below at k ys g a b h =
+        over_parts (take at above) (take W (drop at above)) (take W below) (post_of at W above ++ below) l (put_mid at k above ys ++ below) W at mid
+        (rw length-take (omega arith)) (rw (length-take, length-drop) (omega arith))
+        (e ∙ ap (λ (z : List A). z ++ below) (sym (put_same at W above)) ∙ whole (mid_of at W above))
+        (let i = rw g at h in rw (g, i) (whole (met blank pick (take W (drop at above)) (take W below))))
+        (λ x v. get_or-take W below x blank v ∙ sym (rw e (ap (λ (z : ℕ). get_or (above ++ below) (z + x) blank) (sym n) ∙ get_or-append-add above below x blank)))
+      where
+        whole : (z : List A) → put_mid at W above z ++ below ≡ take at above ++ (z ++ (post_of at W above ++ below))
+        whole z = append_assoc (take at above) (z ++ post_of at W above) below ∙ ap (λ r. take at above ++ r) (append_assoc z (post_of at W above) below)
+
+    -- the first rows below the cut take from rows above it
+    pub over_above : (from k : ℕ) (ys : List A) → W ≤ k → from + W ≤ mid → mid + W ≤ length l → ys ≡ met blank pick (take W below) (take k (drop from above)) → Over blank pick W mid from l (above ++ (ys ++ drop W below))
+    over_above from k ys g a b h =
+        over_parts above (take W below) (take k (drop from above)) (drop W below) l (above ++ (ys ++ drop W below)) W mid from
+        n (rw length-take (omega (arith, rw length-append at (ap length e)))) (e ∙ ap (λ r. above ++ r) (sym (take-append-drop W below))) (rw h refl)
+        (λ x v. get_or-take k (drop from above) x blank (omega arith) ∙ get_or-drop from above x blank ∙ sym (rw e (get_or-append above below blank (from + x) (omega arith))))
 
 -- ---- which rows are meant
 
--- two rows of a picture lie in it and apart
-pub rows_lie : {A : Type 0} (W H y z : ℕ) (l : List A) → length l ≡ H * W → y < H → z < H → (y < z) ⊎ (z < y)
-    → (y * W + W ≤ length l) × (z * W + W ≤ length l) × ((y * W + W ≤ z * W) ⊎ (z * W + W ≤ y * W))
-rows_lie W H y z l n a b d =
-    let p = mul-le-mul_right {m = suc y} {n = H} W a in
-    let q = mul-le-mul_right {m = suc z} {n = H} W b in (
-      omega (arith, suc-mul y W),
-      omega (arith, suc-mul z W),
-      ⊎_elim (λ (u : y < z). inl (omega (arith, mul-le-mul_right {m = suc y} {n = z} W u, suc-mul y W))) (λ (u : z < y). inr (omega (arith, mul-le-mul_right {m = suc z} {n = y} W u, suc-mul z W))) d,
-    )
+-- rows y + k and on, where all k of them are of a picture of H rows
+pub rows_fit : (W H y k : ℕ) → y + k ≤ H → y * W + k * W ≤ H * W
+rows_fit W H y k h = let m = mul-le-mul_right {m = y + k} {n = H} W h in omega arith
 
--- k rows from row y on, and as many from s rows above them on, which are at most s
-pub blocks_lie : {A : Type 0} (W H s k y : ℕ) (l : List A) → length l ≡ H * W → s ≤ y → k ≤ s → y + k ≤ H
-    → (y * W + k * W ≤ length l) × ((y - s) * W + k * W ≤ length l) × ((y * W + k * W ≤ (y - s) * W) ⊎ ((y - s) * W + k * W ≤ y * W))
-blocks_lie W H s k y l n a b d =
-    let p = mul-le-mul_right {m = y + k} {n = H} W d in
-    let q = mul-le-mul_right {m = k} {n = s} W b in
-    let e : y ≡ y - s + s = omega arith in
-    let f : y * W ≡ (y - s) * W + s * W = ap (λ (m : ℕ). m * W) e ∙ omega arith in
-    (omega arith, omega arith, inr (omega arith))
-
--- a row's place fits where the picture does
-pub row_fits : {A : Type 0} (W H y : ℕ) (l : List A) → length l ≡ H * W → y ≤ H → y * W ≤ length l
-row_fits W H y l n a = omega (arith, mul-le-mul_right {m = y} {n = H} W a)
+-- a row begins where the one before it ends
+pub row_before : (W z : ℕ) → 0 < z → z * W ≡ (z - 1) * W + W
+row_before W z h = let e : z ≡ suc (z - 1) = omega arith in ap (λ (m : ℕ). m * W) e ∙ suc-mul (z - 1) W
 
 module _ {A : Type 0} (blank : A) (pick : A → A → A) (W H r s t : ℕ) where
   pub climb_none : (l : List A) → (t < r + s) ⊎ (H ≤ t - r) → Climbed blank pick W H r s t l l

@@ -2,9 +2,13 @@
 -- Down the columns. Ahead, in one sweep, which comes to one row more with every tick: a row that is r + s rows behind it, and reaches r ahead, takes the row s rows on and reaches r + s. All steps of doubling go on at once, each at its own distance,
 -- and the rows that they need are still in the cache. Then back, in one step where the rows reach far enough ahead.
 use Rattle.std.specs.Prelude.{◌≡◌, cond, List, ◌⊎◌, ℕ, zero, suc, ◌+◌, ◌-◌, ◌*◌, ◌≤◌, ◌<◌, min, eqb, length, get_or}
-use Rattle.morph.specs.Lists.{Each}
+use Rattle.morph.specs.Lists.{tabulate, Each}
 use Rattle.morph.specs.Order.{Order}
 use Rattle.passes.specs.Inner.{Near, Greatest}
+
+-- each place of ys takes the better of itself and of the same place of zs
+abbrev pub met : {A : Type 0} → A → (A → A → A) → List A → List A → List A
+met blank pick ys zs = tabulate (length ys) (λ i. pick (get_or ys i blank) (get_or zs i blank))
 
 -- the part of W places at `at` takes the better of itself and of the part at `from`, place by place, and all else stays
 pub record Over {A : Type 0} (blank : A) (pick : A → A → A) (W at from : ℕ) (l l' : List A) : Type 0 where

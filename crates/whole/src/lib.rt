@@ -9,7 +9,7 @@ ghost use Rattle.plan_record.specs.Plan.{filter_of, stages_of, record_number};
 ghost use Rattle.whole_judge.specs.Inner.{Applied};
 ghost use Rattle.whole_judge.specs.Whole.{FiltersWhole};
 
-use passes::Choice;
+use passes::{Choice, Grid};
 use plan_record::{Plan, Stage};
 
 mod in_place; // in_place.rt: pictures that are read where they stand
@@ -19,27 +19,27 @@ pub use in_place::InPlace;
 pub use whole_judge::Filtered;
 
 // A stage: across each row, and then down the columns, ahead and back.
-fn stage<S: Choice>(stage: Stage, width: usize, rows: usize, picture: &mut [S], row: &mut [S])
-    requires { (length picture.old ≡ rows * width) × (width ≤ length row.old) × (rows ≤ 65535) × Each S.Fair picture.old }
-    ensures { Applied S.Fair (apply_stage (filter_of S.samples.order stage)) width rows picture.old row.old picture.new row.new }
+fn stage<S: Choice>(stage: Stage, grid: Grid, picture: &mut [S], row: &mut [S])
+    requires { (length picture.old ≡ grid.rows * grid.width) × (grid.width ≤ length row.old) × Each S.Fair picture.old }
+    ensures { Applied S.Fair (apply_stage (filter_of S.samples.order stage)) grid.width grid.rows picture.old row.old picture.new row.new }
 {
     let kind = stage.kind;
     let back = plan_record::back_across(stage);
     let ahead = plan_record::ahead_across(stage);
-    passes::across(kind, back, ahead, width, rows, picture, row);
+    passes::across(kind, back, ahead, grid, picture, row);
     let above = plan_record::above(stage);
     let below = plan_record::below(stage);
-    sweep::down_ahead(kind, below, width, rows, picture);
-    sweep::down_back(kind, below, above, width, rows, picture);
+    sweep::down_ahead(kind, below, grid, picture);
+    sweep::down_back(kind, below, above, grid, picture);
 }
 
 // A plan, stage by stage.
-fn run<S: Choice>(plan: Plan, width: usize, rows: usize, picture: &mut [S], row: &mut [S])
-    requires { (plan.count ≤ 16) × (length picture.old ≡ rows * width) × (width ≤ length row.old) × (rows ≤ 65535) × Each S.Fair picture.old }
-    ensures { Applied S.Fair (apply_plan (stages_of S.samples.order plan)) width rows picture.old row.old picture.new row.new }
+fn run<S: Choice>(plan: Plan, grid: Grid, picture: &mut [S], row: &mut [S])
+    requires { (plan.count ≤ 16) × (length picture.old ≡ grid.rows * grid.width) × (grid.width ≤ length row.old) × Each S.Fair picture.old }
+    ensures { Applied S.Fair (apply_plan (stages_of S.samples.order plan)) grid.width grid.rows picture.old row.old picture.new row.new }
 {
     for next in &plan.stages[..plan.count] {
-        stage(*next, width, rows, picture, row);
+        stage(*next, grid, picture, row);
     }
 }
 
@@ -60,6 +60,6 @@ pub fn apply<S: InPlace>(
     if let Some(place) = S::take(picture) {
         return whole_judge::say_not_finite(width, place);
     }
-    run(plan, width, rows, picture, row);
+    run(plan, Grid { width, rows }, picture, row);
     whole_judge::say(0)
 }

@@ -1,6 +1,6 @@
 -- The stages left fall.
-use Prim.Native.Nat.{◌-◌}
+use lib.ListN.{length}
 use Rattle.chain.proofs.+run.Given as goal
 
 abbrev pub decreases-run : goal.decreases-run
-decreases-run g l = l.plan.count - l.i
+decreases-run g l = length l.stages.now

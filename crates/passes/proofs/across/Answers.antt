@@ -19,7 +19,7 @@ overflow_add-hi g c = omega (arith, row_within _ _ _ _ _ _ _ _ c.loop-y.invarian
 pub offset_bounds-picture-lo : goal.offset_bounds-picture-lo
 offset_bounds-picture-lo g c =
     let l = c.loop-y in
-    let h : l.y * c.args.width ≤ length l.picture = omega (arith, row_within _ _ _ _ _ _ _ _ l.invariant.0 (omega arith)) in
+    let h : l.y * c.args.grid.width ≤ length l.picture = omega (arith, row_within _ _ _ _ _ _ _ _ l.invariant.0 (omega arith)) in
     search rules
 
 pub slice_bounds-line-end : goal.slice_bounds-line-end

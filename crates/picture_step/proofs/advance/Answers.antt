@@ -33,7 +33,7 @@ pub records-records-requires : goal.records-records-requires
 records-records-requires g c = plan_small g (goal.at.records-records-requires g c).After-whole-plan
 
 pub slice_bounds-run-end : goal.slice_bounds-run-end
-slice_bounds-run-end g c = (enough g c).values_long
+slice_bounds-run-end g c = (enough g (goal.at.slice_bounds-run-end g c).After-records-records).values_long
 
 pub slice_bounds-run-end-2 : goal.slice_bounds-run-end-2
 slice_bounds-run-end-2 g c = sym (length-take-le _ _ (enough g (goal.at.slice_bounds-run-end-2 g c).After-records-records).values_long)
@@ -58,7 +58,7 @@ slice_bounds-run-end-8 g c = sym (length-take-le _ _ (enough g (goal.at.slice_bo
 
 pub run-ran-requires : goal.run-ran-requires
 run-ran-requires g c =
-    (run_ready g.S.Sample.samples c.args.state (memory c.args.values.now c.args.positions.now c.args.starts.now c.args.lengths.now) _ _ _ c.whole-plan.ensures c.cells-cells.ensures c.records-records.ensures c.requires.0 c.args.work.now c.requires.1, omega (arith, c.height-rows.ensures, c.requires.0.run.low), omega arith, (plan_small g (goal.at.run-ran-requires g c).After-whole-plan).0)
+    (run_ready g.S.Sample.samples c.args.state (memory c.args.values.now c.args.positions.now c.args.starts.now c.args.lengths.now) _ _ _ c.whole-plan.ensures c.cells-cells.ensures c.records-records.ensures c.requires.0 c.args.work.now c.requires.1, omega (arith, c.height-rows.ensures, c.requires.0.run.low))
 
 pub moved-next-requires : goal.moved-next-requires
 moved-next-requires g c = c.requires.0.run.counted

@@ -1,7 +1,5 @@
 -- Refused by the rules that look at no pixel, or outside the band, or the part of both rows that is in it.
-use mathlib.Core.Path.{refl, sym}
-use native.Mathlib.Omega.{arith}
-use lib.ListN.{length-take, length-drop}
+use Rattle.std.proofs.Common.{refl, sym, arith, length-take, length-drop}
 use Rattle.residue.proofs.Laws.{refusal_up, judged}
 use Rattle.residue.proofs.Numbers.{within, taken}
 use Rattle.residue.proofs.Band.{before_band, behind_band, in_band_law, outside_sum, outside_test, band_sum, band_test}

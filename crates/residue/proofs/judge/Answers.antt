@@ -1,6 +1,6 @@
 -- Each way out is the first broken rule, or that there is none.
-use mathlib.Core.Path.{refl}
-use borrow.Author.Tests.{le-leb, lt-leb, eq-eqb, ne_eqb}
+use Rattle.std.proofs.Common.{refl, le-leb, eq-eqb, ne_eqb}
+use Rattle.std.proofs.lemmas.Bool.{lt-leb}
 use Rattle.plan_record.proofs.Exits.{first_up}
 use Rattle.residue.specs.Inner.{band_number}
 use Rattle.residue.proofs.Numbers.{by_size, by_rest}

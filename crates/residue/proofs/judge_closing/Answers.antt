@@ -1,5 +1,5 @@
 -- Row 0 of that width breaks no rule of its own.
-use mathlib.Core.Path.{sym, ◌∙◌}
+use Rattle.std.proofs.Common.{sym, ◌∙◌}
 use Rattle.residue.proofs.Numbers.{closing_band}
 use Rattle.residue.proofs.judge_closing.Goals as goal
 

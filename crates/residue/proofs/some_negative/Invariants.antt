@@ -1,5 +1,5 @@
 -- The flag says it of the columns so far.
-use mathlib.Core.Path.{◌≡◌}
+use Rattle.std.proofs.Common.{◌≡◌}
 use Rattle.residue.specs.Residue.{darker, some_to}
 use Rattle.residue.proofs.some_negative.Given as goal
 

@@ -1,13 +1,9 @@
 -- The sum so far is that of the columns so far.
-use mathlib.Core.Path.{◌≡◌, ◌∙◌, ap}
-use Prim.Native.Nat.{ℕ, ◌-◌}
-use borrow.Author.Tests.{ltb-false}
-use lib.ListN.{length, get_or}
+use Rattle.std.proofs.Common.{◌≡◌, ◌∙◌, ap, ℕ, ◌-◌, ltb-false, length, get_or, arith}
 use Rattle.morph.specs.Lists.{sum_to}
 use Rattle.residue.specs.Residue.{darker}
 use Rattle.residue.specs.Inner.{part_negative, part_residue}
-use Rattle.residue.proofs.Laws.{sum_next, none_at}
-use native.Mathlib.Omega.{arith}
+use Rattle.residue.proofs.Laws.{none_at}
 use Rattle.residue.proofs.sum_of.Goals as goal
 
 pub difference-sum-requires : goal.difference-sum-requires
@@ -15,9 +11,6 @@ unfolding part_negative
 difference-sum-requires c =
     let a = c.args in
     ltb-false _ _ (none_at (length a.closed.now) (darker a.closed.now a.input.now) c.requires.2 c.loop-x.x c.loop-x-test.true)
-
-pub loop-x-preserved : goal.loop-x-preserved
-loop-x-preserved c = (sum_next c.loop-x.x _ c.loop-x.invariant.0 c.difference-sum.ensures.0, omega arith)
 
 pub returns : goal.returns
 unfolding part_residue

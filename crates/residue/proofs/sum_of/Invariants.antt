@@ -1,7 +1,5 @@
 -- The sum so far is that of the columns so far.
-use mathlib.Core.Path.{◌≡◌}
-use Prim.Native.Nat.{◌-◌, ◌*◌, ◌≤◌}
-use lib.ListN.{get_or}
+use Rattle.std.proofs.Common.{◌≡◌, ◌-◌, ◌*◌, ◌≤◌, get_or}
 use Rattle.morph.specs.Lists.{sum_to}
 use Rattle.residue.proofs.sum_of.Given as goal
 

@@ -1,11 +1,6 @@
 -- `take_row` meets its contract: the row goes across, its columns into their row of the ring, and what came of it into the queues.
-use mathlib.Core.Path.{◌≡◌, refl, ap}
-use Prim.Native.Nat.{ℕ, ◌+◌, ◌-◌, ◌*◌, ◌%◌, ◌≤◌}
-use native.Mathlib.Omega.{arith}
-use mir.Syntax.{w64}
-use mir.Val.{Fits}
-use lib.ListN.{length}
-use Rattle.stage.proofs.Stage.{back_small, ahead_small, lent_as}
+use Rattle.std.proofs.Common.{◌≡◌, refl, ap, ℕ, ◌+◌, ◌-◌, ◌*◌, ◌%◌, ◌≤◌, arith, w64, Fits, length}
+use Rattle.stage.proofs.Stage.{lent_as}
 use Rattle.origin.proofs.Stages.{ring_in, origins_taken}
 use Rattle.stage_origin.proofs.take_row.Goals as goal
 use Rattle.stage_origin.proofs.take_row.Goals.{After-size_of-places}
@@ -22,30 +17,8 @@ module _ (g : Over) (c : After-size_of-places g) (n : ℕ) where
       × Fits w64 (n % c.size_of-places.result * length c.args.row.now * 2)
   fits = let i = inside in (omega arith, omega arith, omega arith)
 
-pub overflow_mul-lo : goal.overflow_mul-lo
-overflow_mul-lo g c = (fits g c _).0
-
-pub overflow_add-hi : goal.overflow_add-hi
-overflow_add-hi g c = (fits g c _).1
-
-pub offset_bounds-columns-lo : goal.offset_bounds-columns-lo
-offset_bounds-columns-lo g c = (fits g (goal.at.offset_bounds-columns-lo g c).After-size_of-places _).2
-
 pub slice_bounds-across-end : goal.slice_bounds-across-end
 slice_bounds-across-end g c = inside g (goal.at.slice_bounds-across-end g c).After-size_of-places _
-
-pub across-a-requires : goal.across-a-requires
-across-a-requires g c =
-    let p = c.requires.0 in (
-      rw c.back_across.ensures.0 (back_small c.args.stage.kind _ _ p.left p.right),
-      rw c.ahead_across.ensures.0 (ahead_small c.args.stage.kind _ _ p.left p.right),
-      omega arith,
-      omega arith,
-    )
-
-pub read_columns-c-requires : goal.read_columns-c-requires
-read_columns-c-requires g c =
-    (lent_as _ _ _ _ _ _ _ c.size_of-places.ensures.0 c.across-a.ensures.across.long c.requires.2, c.requires.3, omega arith)
 
 pub returns : goal.returns
 returns g c =

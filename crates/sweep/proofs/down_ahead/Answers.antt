@@ -17,7 +17,7 @@ pub loop-t-preserved : goal.loop-t-preserved
 loop-t-preserved g c =
     let l = c.loop-t in
     let a = c.args in
-    (c.picture-1.given ∙ l.invariant.0, sweep_again _ _ _ a.far l.t _ _ (c.tick.ensures a.picture.now (c.requires.0, c.requires.3) l.invariant.1))
+    (c.picture-1.given ∙ l.invariant.0, sweep_again _ _ _ a.far l.t _ _ (c.tick.ensures a.picture.now (c.requires.0, c.requires.2) l.invariant.1))
 
 pub shape_of-picture : goal.shape_of-picture
 shape_of-picture g c = c.loop-t.invariant.0

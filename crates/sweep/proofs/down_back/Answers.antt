@@ -35,7 +35,7 @@ loop-r-preserved g c =
     let k = order_of a.kind g.S.Sample.samples.order in (
       c.picture-in-loop-r-1.given ∙ c.picture-1.given ∙ l.invariant.0,
       omega (arith, s.ensures),
-      then_back k g.S.Choice.Fair _ (picks_flip k g.S.Choice.Fair _ (g.met.S.Choice.picks a.kind)) a.width l.r s.result a.ahead a.far _ _ _ s.ensures l.invariant.2 (rows_back _ (g.S.Choice.pick a.kind) a.width s.result _ _ _ c.lower.ensures c.front.ensures),
+      then_back k g.S.Choice.Fair _ (picks_flip k g.S.Choice.Fair _ (g.met.S.Choice.picks a.kind)) a.grid.width l.r s.result a.ahead a.far _ _ _ s.ensures l.invariant.2 (rows_back _ (g.S.Choice.pick a.kind) a.grid.width s.result _ _ _ c.lower.ensures c.front.ensures),
     )
 
 pub shape_of-picture : goal.shape_of-picture

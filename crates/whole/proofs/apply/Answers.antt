@@ -24,12 +24,15 @@ returns-in-Some g c =
     let (told, inside, stays) = c.in-Some.ensures in
     whole_not_finite K (stages_of K.order a.plan) (record_number a.plan) a.width a.rows a.picture.now a.row.now (sym c.in_default.ensures) c.in-Some.place _ told inside stays c.say_not_finite.ensures
 
+pub invariant_of-run : goal.invariant_of-run
+invariant_of-run g c = record { rows_fit = (lent_all _ _ _ _ _ (sym c.in_default.ensures)).rows_fit }
+
 pub run-requires : goal.run-requires
 run-requires g c =
     let a = c.args in
     let l = lent_all _ _ _ _ _ (sym c.in_default.ensures) in
     let (_, _, fair) = c.in_default-take.ensures in
-    ((judged_count a.plan l.planned).1, c.picture-1.given ∙ l.whole, l.room, l.rows_fit, fair)
+    ((judged_count a.plan l.planned).1, c.picture-1.given ∙ l.whole, l.room, fair)
 
 pub returns : goal.returns
 returns g c =

@@ -9,10 +9,10 @@ use Rattle.whole_judge.proofs.Plan.{applying_start, applying_next, applying_end}
 use Rattle.whole.proofs.run.Goals as goal
 
 pub loop-next-init : goal.loop-next-init
-loop-next-init g c = let a = c.args in applying_start g.S.Sample.samples.order g.S.Choice.Fair a.plan a.width a.rows a.picture.now a.row.now c.requires.4
+loop-next-init g c = let a = c.args in applying_start g.S.Sample.samples.order g.S.Choice.Fair a.plan a.grid.width a.grid.rows a.picture.now a.row.now c.requires.3
 
 pub stage-requires : goal.stage-requires
-stage-requires g c = let i = c.loop-next.invariant in let p = c.requires in (i.long ∙ p.1, omega (arith, i.used.long, p.2), p.3, i.fine)
+stage-requires g c = let i = c.loop-next.invariant in let p = c.requires in (i.long ∙ p.1, omega (arith, i.used.long, p.2), i.fine)
 
 pub loop-next-preserved : goal.loop-next-preserved
 loop-next-preserved g c =

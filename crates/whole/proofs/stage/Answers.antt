@@ -11,14 +11,13 @@ down_ahead-requires g c =
     let d = c.below-below.ensures in (
       c.picture-1.given ∙ c.requires.0,
       omega (arith, d.1),
-      c.requires.2,
-      stage_crossed g.S.Sample.samples.order g.S.Choice.Fair g.met.S.Choice.told a.stage a.width a.rows a.picture.now a.row.now _ _ c.requires.0 c.requires.3 _ _ _ _ c.back_across-back.ensures.0 c.ahead_across-ahead.ensures.0 u.0 d.0 c.across.ensures,
+      stage_crossed g.S.Sample.samples.order g.S.Choice.Fair g.met.S.Choice.told a.stage a.grid.width a.grid.rows a.picture.now a.row.now _ _ c.requires.0 c.requires.2 _ _ _ _ c.back_across-back.ensures.0 c.ahead_across-ahead.ensures.0 u.0 d.0 c.across.ensures,
     )
 
 pub returns : goal.returns
 returns g c =
     let a = c.args in
-    stage_applied g.S.Sample.samples.order g.S.Choice.Fair g.met.S.Choice.told a.stage a.width a.rows a.picture.now a.row.now _ _ c.requires.0 c.requires.3 _ _ _ _
+    stage_applied g.S.Sample.samples.order g.S.Choice.Fair g.met.S.Choice.told a.stage a.grid.width a.grid.rows a.picture.now a.row.now _ _ c.requires.0 c.requires.2 _ _ _ _
     c.back_across-back.ensures.0
     c.ahead_across-ahead.ensures.0
     c.above-above.ensures.0

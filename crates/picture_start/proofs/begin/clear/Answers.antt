@@ -1,18 +1,17 @@
--- `clear` meets its contract. The loop's invariant: the bytes so far are cleared.
-use mathlib.Core.Path.{refl}
-use native.Mathlib.Omega.{arith}
-use lib.ListN.{length-set}
-use Rattle.picture_start.proofs.Starting.{clear_first, clear_next, clear_last}
+-- The front is filled with zeros, and the bytes behind it stay.
+use mathlib.Core.Path.{◌≡◌, ap, ◌∙◌}
+use mathlib.Core.List.{List, ◌++◌}
+use Prim.Native.Nat.{ℕ}
+use lib.ListN.{length, take, drop, replicate}
+use Rattle.std.proofs.lemmas.List.{length-take-le}
+use Rattle.std.proofs.Common.{rules}
+use Rattle.picture_start.specs.Start.{cleared}
 use Rattle.picture_start.proofs.begin.clear.Goals as goal
 
-pub loop-i-init : goal.loop-i-init
-loop-i-init c = (omega arith, refl, clear_first _)
-
-pub loop-i-preserved : goal.loop-i-preserved
-loop-i-preserved c = let l = c.loop-i in (omega arith, simp length-set l.invariant.1, clear_next _ l.bytes l.i (omega arith) l.invariant.2)
-
-pub shape_of-bytes : goal.shape_of-bytes
-shape_of-bytes c = c.loop-i.invariant.1
-
 pub returns : goal.returns
-returns c = let l = c.loop-i in clear_last _ l.i _ l.bytes (omega arith) (omega arith) l.invariant.2
+unfolding cleared
+returns c =
+    let bytes = c.args.bytes.now in
+    let n = c.args.n in
+    let l : length (take n bytes) ≡ n = length-take-le n bytes c.requires in
+    ap (λ (front : List ℕ). front ++ drop n bytes) (c.fill.ensures.after (λ y e. search rules) ∙ ap (λ (k : ℕ). replicate k 0) l)

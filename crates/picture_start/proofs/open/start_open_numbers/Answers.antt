@@ -1,11 +1,18 @@
 -- `start_open_numbers` meets its contract: the plan is read, and then the start is that of the plan.
+use mathlib.Core.Path.{refl}
+use Rattle.std.specs.Prelude.{Ok, Err}
+use Rattle.plan_record.specs.Inner.{reading_as}
+use Rattle.plan_record.proofs.Exits.{refused_some}
 use Rattle.picture_start.specs.Start.{open_state}
 use Rattle.picture_start.proofs.Starting.{numbers_refused, numbers_went}
 use Rattle.picture_start.proofs.open.start_open_numbers.Goals as goal
 
-pub returns-then-number-ne0 : goal.returns-then-number-ne0
-returns-then-number-ne0 c = numbers_refused _ _ _ _ _ _ _ _ c.read-reading.ensures _ _ _ _ _ c.if-number-ne0.true c.not_started.ensures.0 c.not_started.ensures.1
+pub returns-in-Ok : goal.returns-in-Ok
+returns-in-Ok c =
+    let a = c.args in
+    numbers_went a.count a.stages.now _ _ _ _ _ (reading_as (Ok c.in-Ok.plan)) c.in-Ok.ensures (λ p. open_state p a.sample a.width) _ _ _ _ _ refl c.start_open.ensures
 
-pub returns : goal.returns
-returns c =
-    numbers_went _ _ _ _ _ _ _ _ c.read-reading.ensures (λ p. open_state p c.args.sample c.args.width) _ _ _ _ _ c.if-number-ne0.false c.start_open.ensures
+pub returns-in-Err : goal.returns-in-Err
+returns-in-Err c =
+    let a = c.args in
+    numbers_refused a.count a.stages.now _ _ _ _ _ (reading_as (Err c.in-Err.refusal)) c.in-Err.ensures _ _ _ _ _ (refused_some c.in-Err.refusal) c.from.ensures.0 c.from.ensures.1
