@@ -1,12 +1,12 @@
 -- The judging of the column records: the flag is that of the columns passed.
-use mathlib.Core.Path.{◌≡◌, refl, ◌∙◌}
+use mathlib.Core.Path.{◌≡◌, refl}
 use mathlib.Core.Bool.{Bool, true, false, ◌&&◌, and-true}
 use mathlib.Core.List.{List, [], ◌∷◌}
-use Prim.Native.Nat.{ℕ, ◌+◌, ◌≤◌, ◌<◌}
+use Prim.Native.Nat.{ℕ, ◌+◌, ◌<◌}
 use native.Mathlib.Numerals.{add-one}
 use lib.Dec.{ltb, leb}
 use lib.ListN.{length, take, get_or}
-use lib.Seq.{take-suc, take_all}
+use lib.Seq.{take-suc}
 use Rattle.morph.specs.Lists.{all}
 use Rattle.morph.proofs.Lists.{all_append}
 use Rattle.memory.specs.Memory.{sound_records}
@@ -28,6 +28,3 @@ module _ (P : ℕ) (starts lengths : List ℕ) where
   judge_next x good here h k g e =
       rw (all_next (λ s. ltb s P) starts x h, all_next (λ n. leb n P) lengths x k, g, e)
       (middle (all (λ s. ltb s P) (take x starts)) (all (λ n. leb n P) (take x lengths)) (ltb (get_or starts x 0) P) (leb (get_or lengths x 0) P))
-
-  pub judge_end : (x : ℕ) (good : Bool) → length starts ≤ x → length lengths ≤ x → good ≡ sound_records P (take x starts) (take x lengths) → good ≡ sound_records P starts lengths
-  judge_end x good h k g = g ∙ rw (take_all x starts h, take_all x lengths k)
