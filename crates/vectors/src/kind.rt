@@ -22,7 +22,7 @@ impl Pixel for u8 {
     }
 
     fn next(from: &mut impl Read) -> u8 {
-        let [byte] = files::bytes(from);
+        let [byte] = files::bytes::<1>(from);
         byte
     }
 }

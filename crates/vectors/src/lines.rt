@@ -50,7 +50,7 @@ fn one<S: Pixel>(rt: &(impl Print + Files), n: u8) -> io::Result<bool> {
         return Ok(false);
     };
     print!(rt; ":")?;
-    let [kind, left, right, low, high] = files::bytes(&mut from);
+    let [kind, left, right, low, high] = files::bytes::<5>(&mut from);
     let pixels = u16::from_le_bytes([low, high]);
     let mut l = line::start::<S>(kind, left, right, usize::from(pixels)).line;
     for _ in 0..pixels {

@@ -95,7 +95,7 @@ pub fn line_p(rt: &impl Print) -> io::Result<()> {
     reads(rt, &mut l, &[3, 1, 4, 1])?;
     drains(rt, &mut l)?;
     reads(rt, &mut l, &[5, 9, 2, 6, 7])?;
-    for _ in 0..3 {
+    for _ in 0..2 {
         drains(rt, &mut l)?;
     }
     Ok(())
