@@ -87,10 +87,10 @@ fn first<S: Sample>(kind: Kind, left: u8, right: u8, pixels: usize) -> Line<S>
     ensures { (number : ℕ) → kind ≡ kind_of number → line_state result ≡ first_line S.samples number left right pixels }
 {
     Line {
-        kind: kind,
-        left: left,
-        right: right,
-        pixels: pixels,
+        kind,
+        left,
+        right,
+        pixels,
         step: 0,
         queue: row::empty(),
     }
@@ -118,10 +118,10 @@ fn refused<S: Sample>(line: Line<S>, refusal: Refusal) -> Stepped<S>
 {
     Stepped {
         answer: Answer::Refused {
-            refusal: refusal,
+            refusal,
             position: line.shape().place(refusal),
         },
-        line: line,
+        line,
     }
 }
 
@@ -138,9 +138,7 @@ fn step_on<S: Sample>(line: Line<S>, q: RowQueue<S>, comparisons: usize) -> Step
     next.queue = q;
     if t < ahead {
         return Stepped {
-            answer: Answer::NotYet {
-                comparisons: comparisons,
-            },
+            answer: Answer::NotYet { comparisons },
             line: next,
         };
     }
@@ -148,9 +146,9 @@ fn step_on<S: Sample>(line: Line<S>, q: RowQueue<S>, comparisons: usize) -> Step
     Stepped {
         answer: Answer::Pixel {
             value: front.value,
-            position: position,
+            position,
             number: t - ahead,
-            comparisons: comparisons,
+            comparisons,
         },
         line: next,
     }

@@ -98,26 +98,20 @@ fn bring<'a, S: Sample>(
 fn advance<S: Sample>(
     state: State,
     work: &mut [S],
-    rows: OriginRows<S>,
-    lent: OriginLent<S>,
+    out: &mut [S],
+    origin_rows: &mut [usize],
+    origin_columns: &mut [u16],
+    values: &mut [S],
+    positions: &mut [u8],
+    columns: &mut [u16],
+    starts: &mut [u8],
+    lengths: &mut [u8],
 ) -> Stepped
-    requires { Fit state (given lent).cells × (cells_needed state.plan state.width ≤ length (given lent).columns) × (length work.old ≡ state.width) × (length (given_rows rows).pixels ≡ state.width) × (length (given_rows rows).rows ≡ state.width) × (length (given_rows rows).columns ≡ state.width) × (state.step < height_of state + plan_ahead state.plan) × (state.plan.count ≡ 1) }
-    ensures { OriginsAdvanced S.samples state (given lent.entry) work.old (given_rows rows.entry) (left lent.exit) (left_rows rows.exit) result.answer result.state }
+    requires { Fit state (memory values.old positions.old starts.old lengths.old) × (cells_needed state.plan state.width ≤ length columns.old) × (length work.old ≡ state.width) × (length out.old ≡ state.width) × (length origin_rows.old ≡ state.width) × (length origin_columns.old ≡ state.width) × (state.step < height_of state + plan_ahead state.plan) × (state.plan.count ≡ 1) }
+    ensures { OriginsAdvanced S.samples state (five_slices values.old positions.old columns.old starts.old lengths.old) work.old (three_rows out.old origin_rows.old origin_columns.old) (five_slices values.new positions.new columns.new starts.new lengths.new) (three_rows out.new origin_rows.new origin_columns.new) result.answer result.state }
 {
     let plan = state.plan;
     let t = state.step;
-    let OriginLent {
-        values,
-        positions,
-        columns,
-        starts,
-        lengths,
-    } = lent;
-    let OriginRows {
-        pixels,
-        rows: origin_rows,
-        columns: origin_columns,
-    } = rows;
     let comparisons = move_on(state, work, values, positions, columns, starts, lengths);
     let next = picture_state::moved(state);
     let ahead = plan_record::look_ahead(plan);
@@ -130,7 +124,7 @@ fn advance<S: Sample>(
         &positions[..],
         &columns[..],
         &starts[..],
-        pixels,
+        out,
         origin_rows,
         origin_columns,
     );
@@ -153,19 +147,37 @@ pub fn origin_row<S: Sample>(
 ) -> Stepped
     ensures { OriginRowStep S.samples S.NUMBER state (given lent.entry) row.now (given_rows rows.entry) (left lent.exit) (left_rows rows.exit) result.answer result.state }
 {
-    let lending = Lending {
-        values: lent.values.len(),
-        positions: lent.positions.len(),
-        starts: &lent.starts[..],
-        lengths: &lent.lengths[..],
-    };
+    let OriginRows {
+        pixels,
+        rows: origin_rows,
+        columns: origin_columns,
+    } = rows;
     let outs = Outs {
-        out: rows.pixels.len(),
-        rows: rows.rows.len(),
-        columns: rows.columns.len(),
+        out: pixels.len(),
+        rows: origin_rows.len(),
+        columns: origin_columns.len(),
     };
-    let columns = lent.columns.len();
-    if let Err(refusal) = judge_origin_row(S::NUMBER, state, row.len(), outs, columns, lending) {
+    let OriginLent {
+        values,
+        positions,
+        columns,
+        starts,
+        lengths,
+    } = lent;
+    let lending = Lending {
+        values: values.len(),
+        positions: positions.len(),
+        starts: &starts[..],
+        lengths: &lengths[..],
+    };
+    if let Err(refusal) = judge_origin_row(
+        S::NUMBER,
+        state,
+        row.len(),
+        outs,
+        columns.len(),
+        lending,
+    ) {
         return picture_state::refuses(state, refusal.number(), 0);
     }
     let bad = S::first_bad(row);
@@ -175,29 +187,62 @@ pub fn origin_row<S: Sample>(
     let width = row.len();
     let mut room = blank::<S>();
     S::take_in(row, &mut room[..width]);
-    advance(state, &mut room[..width], rows, lent)
+    advance(
+        state,
+        &mut room[..width],
+        pixels,
+        origin_rows,
+        origin_columns,
+        values,
+        positions,
+        columns,
+        starts,
+        lengths,
+    )
 }
 
 // A step without a row, once all are read.
 pub fn origin_drain<S: Sample>(state: State, rows: OriginRows<S>, lent: OriginLent<S>) -> Stepped
     ensures { OriginDrainStep S.samples S.NUMBER state (given lent.entry) (given_rows rows.entry) (left lent.exit) (left_rows rows.exit) result.answer result.state }
 {
-    let lending = Lending {
-        values: lent.values.len(),
-        positions: lent.positions.len(),
-        starts: &lent.starts[..],
-        lengths: &lent.lengths[..],
-    };
+    let OriginRows {
+        pixels,
+        rows: origin_rows,
+        columns: origin_columns,
+    } = rows;
     let outs = Outs {
-        out: rows.pixels.len(),
-        rows: rows.rows.len(),
-        columns: rows.columns.len(),
+        out: pixels.len(),
+        rows: origin_rows.len(),
+        columns: origin_columns.len(),
     };
-    let columns = lent.columns.len();
-    if let Err(refusal) = judge_origin_drain(S::NUMBER, state, outs, columns, lending) {
+    let OriginLent {
+        values,
+        positions,
+        columns,
+        starts,
+        lengths,
+    } = lent;
+    let lending = Lending {
+        values: values.len(),
+        positions: positions.len(),
+        starts: &starts[..],
+        lengths: &lengths[..],
+    };
+    if let Err(refusal) = judge_origin_drain(S::NUMBER, state, outs, columns.len(), lending) {
         return picture_state::refuses(state, refusal.number(), 0);
     }
-    let width = rows.pixels.len();
+    let width = pixels.len();
     let mut room = blank::<S>();
-    advance(state, &mut room[..width], rows, lent)
+    advance(
+        state,
+        &mut room[..width],
+        pixels,
+        origin_rows,
+        origin_columns,
+        values,
+        positions,
+        columns,
+        starts,
+        lengths,
+    )
 }

@@ -8,7 +8,7 @@ ghost use Rattle.queue.specs.Inner.{Roomed};
 ghost use Rattle.row.specs.Inner.{answer_put, Read, Across, Drained};
 
 use morph::Kind;
-use queue::{Entry, Room};
+use queue::{Ends, Entry, Room};
 use sample::Sample;
 
 // A step as a position.
@@ -17,16 +17,6 @@ pub fn position(t: usize) -> u16
     ensures { result ≡ t }
 {
     t as u16
-}
-
-// The column that gave the answer of step t is put in its place, if step t has one.
-pub fn locate(columns: &mut [u16], ahead: usize, t: usize, column: u16)
-    requires { t < length columns.old + ahead }
-    ensures { columns.new ≡ answer_put ahead t column columns.old }
-{
-    if ahead <= t {
-        columns[t - ahead] = column;
-    }
 }
 
 // The row queue: its own 63 places, where it starts, and how many entries it has.
@@ -43,14 +33,6 @@ pub struct RowQueue<S> {
 pub struct Pushed<S> {
     pub queue: RowQueue<S>,
     pub room: Room,
-}
-
-// What reading a whole row leaves beside the queue's two arrays: where it starts, how many entries it has, and the comparisons made.
-#[derive(Clone, Copy, Debug, PartialEq, Eq)]
-pub struct Passed {
-    pub start: usize,
-    pub count: usize,
-    pub comparisons: usize,
 }
 
 // An empty queue.
@@ -89,8 +71,8 @@ pub fn push<S: Sample>(q: RowQueue<S>, kind: Kind, window: usize, e: Entry<S>) -
     );
     Pushed {
         queue: RowQueue {
-            values: values,
-            positions: positions,
+            values,
+            positions,
             start: r.start,
             count: r.count + 1,
         },
@@ -107,8 +89,8 @@ pub fn front<S: Sample>(q: RowQueue<S>) -> Entry<S>
     queue::front(&q.values, &q.positions, start)
 }
 
-// The answer v of step t is put in its place, if step t has one.
-pub fn answer<S: Sample>(row: &mut [S], ahead: usize, t: usize, v: S)
+// The answer v of step t, or the column that gave it, is put in its place, if step t has one.
+pub fn answer<T: Copy>(row: &mut [T], ahead: usize, t: usize, v: T)
     requires { t < length row.old + ahead }
     ensures { row.new ≡ answer_put ahead t v row.old }
 {
@@ -127,12 +109,12 @@ fn read_row<S: Sample>(
     back: usize,
     ahead: usize,
     row: &mut [S],
-) -> Passed
+) -> Ends
     requires { (back ≤ 31) × (ahead ≤ 31) × (length row.old ≤ 65535) × (length values.old ≡ 63) × (length positions.old ≡ 63) }
     ensures { Read S.samples kind back ahead row.old (length row.old) row.new values.new positions.new result.start result.count result.comparisons }
 {
     let window = back + ahead + 1;
-    let n = queue::wide(position(row.len()));
+    let n = usize::from(position(row.len()));
     let mut start = 0;
     let mut count = 0;
     let mut behind = 0;
@@ -150,10 +132,10 @@ fn read_row<S: Sample>(
         let front = queue::front(&values[..], &positions[..], start);
         answer(row, ahead, t, front.value);
     }
-    Passed {
-        start: start,
-        count: count,
-        comparisons: comparisons,
+    Ends {
+        start,
+        count,
+        comparisons,
     }
 }
 
@@ -184,7 +166,7 @@ fn read_all<S: Sample>(
     back: usize,
     ahead: usize,
     row: &mut [S],
-) -> Passed
+) -> Ends
     requires { (back ≤ 31) × (ahead ≤ 31) × (length row.old ≤ 65535) × (length values.old ≡ 63) × (length positions.old ≡ 63) }
     ensures { Read S.samples kind back ahead row.old (length row.old) row.new values.new positions.new result.start result.count result.comparisons }
 {
@@ -204,8 +186,8 @@ pub fn across<S: Sample>(kind: Kind, back: usize, ahead: usize, row: &mut [S]) -
     let mut positions = room.positions;
     let passed = read_all(kind, &mut values, &mut positions, back, ahead, row);
     let q = RowQueue {
-        values: values,
-        positions: positions,
+        values,
+        positions,
         start: passed.start,
         count: passed.count,
     };

@@ -6,8 +6,8 @@ ghost use Rattle.std.specs.Prelude.{◌≡◌, ◌+◌, ◌≤◌, ◌<◌, leng
 ghost use Rattle.row.specs.Inner.{ReadOrigins, AcrossOrigins, DrainedOrigins};
 
 use morph::Kind;
-use queue::Entry;
-use row::{Passed, RowQueue, answer};
+use queue::{Ends, Entry};
+use row::{RowQueue, answer};
 use sample::Sample;
 
 // The steps that read, as in row: the queue's start and count stand in locals until all are read, and the length goes by way of a position.
@@ -19,12 +19,12 @@ fn read_row<S: Sample>(
     ahead: usize,
     row: &mut [S],
     columns: &mut [u16],
-) -> Passed
+) -> Ends
     requires { (back ≤ 31) × (ahead ≤ 31) × (length row.old ≤ 65535) × (length columns.old ≡ length row.old) × (length values.old ≡ 63) × (length positions.old ≡ 63) }
     ensures { ReadOrigins S.samples kind back ahead row.old columns.old (length row.old) row.new columns.new values.new positions.new result.start result.count result.comparisons }
 {
     let window = back + ahead + 1;
-    let n = queue::wide(row::position(row.len()));
+    let n = usize::from(row::position(row.len()));
     let mut start = 0;
     let mut count = 0;
     let mut behind = 0;
@@ -41,12 +41,12 @@ fn read_row<S: Sample>(
         comparisons += r.comparisons;
         let front = queue::front(&values[..], &positions[..], start);
         answer(row, ahead, t, front.value);
-        row::locate(columns, ahead, t, front.position);
+        answer(columns, ahead, t, front.position);
     }
-    Passed {
-        start: start,
-        count: count,
-        comparisons: comparisons,
+    Ends {
+        start,
+        count,
+        comparisons,
     }
 }
 
@@ -72,7 +72,7 @@ fn drain_row<S: Sample>(
         count -= gone;
         let oldest = queue::front(&q.values, &q.positions, start);
         answer(row, ahead, t, oldest.value);
-        row::locate(columns, ahead, t, oldest.position);
+        answer(columns, ahead, t, oldest.position);
     }
 }
 
@@ -85,7 +85,7 @@ fn read_all<S: Sample>(
     ahead: usize,
     row: &mut [S],
     columns: &mut [u16],
-) -> Passed
+) -> Ends
     requires { (back ≤ 31) × (ahead ≤ 31) × (length row.old ≤ 65535) × (length columns.old ≡ length row.old) × (length values.old ≡ 63) × (length positions.old ≡ 63) }
     ensures { ReadOrigins S.samples kind back ahead row.old columns.old (length row.old) row.new columns.new values.new positions.new result.start result.count result.comparisons }
 {
@@ -111,8 +111,8 @@ pub fn across<S: Sample>(
     let mut positions = room.positions;
     let passed = read_all(kind, &mut values, &mut positions, back, ahead, row, columns);
     let q = RowQueue {
-        values: values,
-        positions: positions,
+        values,
+        positions,
         start: passed.start,
         count: passed.count,
     };

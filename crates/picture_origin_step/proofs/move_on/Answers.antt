@@ -1,13 +1,12 @@
 -- `move_on` meets its contract: the stage's own step on what is needed of the memory and of the columns.
 use mathlib.Core.Path.{sym, subst}
 use Prim.Native.Nat.{◌≤◌}
-use lib.Ieee.{Float}
 use lib.ListN.{length}
 use lib.Seq.{length-take-le}
 use Rattle.plan_record.specs.Inner.{Small}
 use Rattle.memory.specs.Memory.{memory}
 use Rattle.chain.proofs.Memory.{AtLeast}
-use Rattle.picture_origin.specs.Numbers.{OriginMemory, five_slices}
+use Rattle.picture_origin.specs.Numbers.{five_slices}
 use Rattle.picture_origin.proofs.Fronted.{Asks, only_small, cells_lent, part_lent, part_back}
 use Rattle.picture_origin_step.proofs.move_on.Goals as goal
 use Rattle.picture_origin_step.proofs.move_on.Given.{Over}

@@ -8,28 +8,20 @@ use Rattle.row.proofs.read_row.Goals as goal
 
 pub loop-t-init : goal.loop-t-init
 loop-t-init g c =
-    let s = c in
-    (c.wide-n.ensures.0 ∙ c.position.ensures, sym (wrap_low 63 (0 + 0) (omega arith)), read_first g.S.Sample.samples _ _ _ _ _ _ s.requires.3 s.requires.4)
+    (c.from-n.ensures ∙ c.position.ensures, sym (wrap_low 63 (0 + 0) (omega arith)), read_first g.S.Sample.samples _ _ _ _ _ _ c.requires.3 c.requires.4)
 
 pub loop-t-preserved : goal.loop-t-preserved
 loop-t-preserved g c =
-    let at_front = c in
-    let at_next = at_front in
-    let at_push = at_next in
-    let at_position = at_push in
-    let at_test = at_position in
-    let at-loop = at_test in
-    let s = at-loop in
-    let i = at-loop.loop-t.invariant in
-    let more = at_test.loop-t-test.true in
-    let e = at_position.position-in-loop-t.ensures in
-    let p = at_push.push_within-r in
+    let i = c.loop-t.invariant in
+    let more = c.loop-t-test.true in
+    let e = c.position-in-loop-t.ensures in
+    let p = c.push_within-r in
     let r = p.result in
     let m = p.ensures in
     let w = i.2.values_long in
-    let read = get_or_read_under at-loop.loop-t.row at-loop.loop-t.t _ _ g.S.Sample.samples.order.blank c.index-row-t.is (omega (arith, i.0, i.2.long, more)) refl in (
+    let read = get_or_read_under c.loop-t.row c.loop-t.t _ _ g.S.Sample.samples.order.blank c.index-row-t.is (omega (arith, i.0, i.2.long, more)) refl in (
       i.0,
-      at_next.next-behind.ensures.0 ∙ behind_next 63 r (m.0.behind ∙ ap (λ n. wrap n (r.start + r.count)) w) (omega (arith, m.0.below)) (omega (arith, m.0.fits, s.requires.0, s.requires.1)),
+      c.next-behind.ensures.0 ∙ behind_next 63 r (m.0.behind ∙ ap (λ n. wrap n (r.start + r.count)) w) (omega (arith, m.0.below)) (omega (arith, m.0.fits, c.requires.0, c.requires.1)),
       rw (c.answer.ensures, m.1, m.2, e)
-          (read_next g.S.Sample.samples _ _ _ _ _ _ _ _ _ _ _ i.2 _ _ r (omega (arith, i.0, more)) s.requires.0 s.requires.1 read (rw e at m.0) (rw m.1 at at_front.front-front.ensures.0)),
+          (read_next g.S.Sample.samples _ _ _ _ _ _ _ _ _ _ _ i.2 _ _ r (omega (arith, i.0, more)) c.requires.0 c.requires.1 read (rw e at m.0) (rw m.1 at c.front-front.ensures.0)),
     )
