@@ -2,6 +2,7 @@
 use crate::belt::{Belt, Leaves};
 use crate::command::Command;
 use crate::kind::Pixel;
+use picture::Lent;
 use script::{bytes_at, up_to, up_to_mut};
 use show::{One, Row, Told};
 use std::io;
@@ -10,14 +11,16 @@ use std::io;
 fn offer<S: Pixel>(rt: &impl Print, belt: &mut Belt, c: Command, pixels: &[S]) -> io::Result<()> {
     let cells = S::cells(&mut belt.samples);
     let out = up_to_mut(c.b, cells.out);
-    let s = S::row(
+    let s = picture::row(
         belt.state,
         pixels,
         out,
-        up_to_mut(belt.lent.values, cells.values),
-        up_to_mut(belt.lent.positions, &mut belt.positions),
-        up_to_mut(belt.lent.starts, &mut belt.starts),
-        up_to_mut(belt.lent.lengths, &mut belt.lengths),
+        Lent {
+            values: up_to_mut(belt.lent.values, cells.values),
+            positions: up_to_mut(belt.lent.positions, &mut belt.positions),
+            starts: up_to_mut(belt.lent.starts, &mut belt.starts),
+            lengths: up_to_mut(belt.lent.lengths, &mut belt.lengths),
+        },
     );
     print!(rt;
         "{} row: {}; out{}{}",
@@ -33,13 +36,15 @@ fn offer<S: Pixel>(rt: &impl Print, belt: &mut Belt, c: Command, pixels: &[S]) -
 fn drain<S: Pixel>(rt: &impl Print, belt: &mut Belt, c: Command) -> io::Result<()> {
     let cells = S::cells(&mut belt.samples);
     let out = up_to_mut(c.b, cells.out);
-    let s = S::drain(
+    let s = picture::drain(
         belt.state,
         out,
-        up_to_mut(belt.lent.values, cells.values),
-        up_to_mut(belt.lent.positions, &mut belt.positions),
-        up_to_mut(belt.lent.starts, &mut belt.starts),
-        up_to_mut(belt.lent.lengths, &mut belt.lengths),
+        Lent {
+            values: up_to_mut(belt.lent.values, cells.values),
+            positions: up_to_mut(belt.lent.positions, &mut belt.positions),
+            starts: up_to_mut(belt.lent.starts, &mut belt.starts),
+            lengths: up_to_mut(belt.lent.lengths, &mut belt.lengths),
+        },
     );
     print!(rt;
         "{} drain: {}; out{}{}",
@@ -54,7 +59,7 @@ fn drain<S: Pixel>(rt: &impl Print, belt: &mut Belt, c: Command) -> io::Result<(
 
 // Shows a place of a queue, and says whether it is there.
 fn place<S: Pixel>(rt: &impl Print, belt: &mut Belt, c: Command, place: usize) -> io::Result<bool> {
-    let shown = S::read_out(
+    let shown = picture::read_out::<S>(
         belt.state,
         c.a,
         c.b,
@@ -65,12 +70,12 @@ fn place<S: Pixel>(rt: &impl Print, belt: &mut Belt, c: Command, place: usize) -
         up_to(belt.lent.lengths, &belt.lengths),
     );
     match shown {
-        Ok((value, position)) => {
-            print!(rt; " {}@{position}", One(value))?;
+        Ok(e) => {
+            print!(rt; " {}@{}", One(e.value), e.position)?;
             Ok(true)
         }
-        Err(number) => {
-            print!(rt; " -{number}")?;
+        Err(refusal) => {
+            print!(rt; " -{}", refusal.number())?;
             Ok(false)
         }
     }

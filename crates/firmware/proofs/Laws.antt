@@ -14,7 +14,7 @@ use Rattle.morph.specs.Origin.{LatestEntry}
 use Rattle.morph.specs.Lists.{Each}
 use Rattle.morph.specs.Numbers.{given}
 use Rattle.morph.proofs.Lists.{split}
-use Rattle.morph.proofs.Numbers.{first_one, first_zero, given_zero, skip, found}
+use Rattle.morph.proofs.Numbers.{first_one, first_zero, given_zero, skip}
 use Rattle.sample.specs.Samples.{greys}
 use Rattle.row.proofs.Origins.{positions_latest}
 use Rattle.line_judge.specs.Numbers.{line_start_number}
@@ -22,17 +22,10 @@ use Rattle.line_judge.specs.Inner.{LineSound}
 use Rattle.line_judge.proofs.Numbers.{start_zero}
 use Rattle.firmware.specs.Row.{filter_row_number, FiltersRow, filter_positions_number, FiltersRowPositions}
 
-pub accepted : {n m : ℕ} → n ≡ m → n ≤ 0 → m ≡ 0
-accepted e h = omega arith
-
 -- the number, from that of the line's start
 module _ (kind left right pixels places : ℕ) {n : ℕ} (e : n ≡ line_start_number kind left right pixels) where
   abbrev uneven : ℕ
   uneven = given 7 (not (eqb pixels places))
-
-  pub row_start : (n ≡ 0 → ⊥) → n ≡ filter_row_number kind left right pixels places
-  unfolding filter_row_number
-  row_start h = found (line_start_number kind left right pixels) (uneven ∷ []) e h
 
   pub row_lengths : {m : ℕ} → n ≡ 0 → m ≡ uneven → m ≡ filter_row_number kind left right pixels places
   unfolding filter_row_number
@@ -70,10 +63,6 @@ filter_row_unique kind left right input output output₁ output₂ r₁ r₂ h k
 -- ---- with positions
 
 module _ (kind left right pixels places columns : ℕ) {n : ℕ} (e : n ≡ filter_row_number kind left right pixels places) where
-  pub both_first : (n ≡ 0 → ⊥) → n ≡ filter_positions_number kind left right pixels places columns
-  unfolding filter_positions_number
-  both_first h = found (filter_row_number kind left right pixels places) (filter_row_number kind left right pixels columns ∷ []) e h
-
   pub both_second : {m : ℕ} → n ≡ 0 → m ≡ filter_row_number kind left right pixels columns → m ≡ filter_positions_number kind left right pixels places columns
   unfolding filter_positions_number
   both_second z f =

@@ -2,7 +2,9 @@
 // The crate `firmware_c` hands each to C under the same name.
 #![tactic(auto)]
 
-ghost use Rattle.std.specs.Prelude.{◌≡◌};
+ghost use Rattle.std.specs.Prelude.{◌≡◌, IfOk};
+ghost use Rattle.morph.specs.Order.{kind_of};
+ghost use Rattle.morph.specs.Refusals.{said};
 ghost use Rattle.sample.specs.Samples.{greys, rates};
 ghost use Rattle.job_run.specs.Run.{RunsJob};
 ghost use Rattle.firmware.specs.Dark.{TellsDark};
@@ -12,49 +14,80 @@ ghost use Rattle.firmware.specs.Worn.{worn_byte_of, TellsWorn};
 ghost use Rattle.firmware.specs.Row.{filter_row_number, FiltersRow, filter_positions_number, FiltersRowPositions};
 
 use job_run::JobRun;
+use morph::{Kind, Refusal};
 use residue::Residue;
-use whole_judge::Filtered;
+use whole::{Filtered, InPlace};
 use worn::{Begun, Question, Worn};
 
-// The number of a call, 0 where it is accepted, of rows of these two lengths.
-fn judge(kind: u8, left: u8, right: u8, pixels: usize, places: usize) -> u8
-    ensures { result ≡ filter_row_number kind left right pixels places }
+// Judges a call on rows of these two lengths: the kind of its filter.
+fn judge(kind: u8, left: u8, right: u8, pixels: usize, places: usize) -> Result<Kind, Refusal>
+    ensures number { said result ≡ filter_row_number kind left right pixels places }
+    ensures kind { IfOk result (λ k. k ≡ kind_of kind) }
 {
-    let number = line_judge::start(kind, left, right, pixels);
-    if number != 0 {
-        return number;
-    }
+    let which = line_judge::start(kind, left, right, pixels)?;
     if pixels != places {
-        return 7;
+        return Err(Refusal::RowLength);
     }
-    0
+    Ok(which)
+}
+
+fn filter_row(kind: u8, left: u8, right: u8, input: &[u8], output: &mut [u8]) -> Result<(), Refusal>
+    ensures { FiltersRow kind left right input.now output.old output.new (said result) }
+{
+    let which = judge(kind, left, right, input.len(), output.len())?;
+    let back = line_judge::back(which, left, right);
+    let ahead = line_judge::ahead(which, left, right);
+    output.copy_from_slice(input);
+    row::across(which, back, ahead, output);
+    Ok(())
 }
 
 // Filters the row `input` into the row `output`, and answers 0; or answers the number of a refusal, and writes nothing.
 pub fn kelafshir_filter_row(kind: u8, left: u8, right: u8, input: &[u8], output: &mut [u8]) -> u8
     ensures { FiltersRow kind left right input.now output.old output.new result }
 {
-    let number = judge(kind, left, right, input.len(), output.len());
-    if 0 < number {
-        return number;
-    }
-    let which = line_judge::kind_of(kind);
-    let back = line_judge::back(which, left, right);
-    let ahead = line_judge::ahead(which, left, right);
-    sample::grey::copy(input, output);
-    row_grey::across(which, back, ahead, output);
-    0
+    morph::said(filter_row(kind, left, right, input, output))
 }
 
-// The number of a call with positions, of rows of these three lengths: the row of positions is judged as the output row is.
-fn judge_both(kind: u8, left: u8, right: u8, pixels: usize, places: usize, columns: usize) -> u8
-    ensures { result ≡ filter_positions_number kind left right pixels places columns }
+// Judges a call with positions, on rows of these three lengths: the row of positions is judged as the output row is.
+fn judge_both(
+    kind: u8,
+    left: u8,
+    right: u8,
+    pixels: usize,
+    places: usize,
+    columns: usize,
+) -> Result<Kind, Refusal>
+    ensures number { said result ≡ filter_positions_number kind left right pixels places columns }
+    ensures kind { IfOk result (λ k. k ≡ kind_of kind) }
 {
-    let number = judge(kind, left, right, pixels, places);
-    if number != 0 {
-        return number;
-    }
+    judge(kind, left, right, pixels, places)?;
     judge(kind, left, right, pixels, columns)
+}
+
+fn filter_row_positions(
+    kind: u8,
+    left: u8,
+    right: u8,
+    input: &[u8],
+    output: &mut [u8],
+    positions: &mut [u16],
+) -> Result<(), Refusal>
+    ensures { FiltersRowPositions kind left right input.now output.old positions.old output.new positions.new (said result) }
+{
+    let which = judge_both(
+        kind,
+        left,
+        right,
+        input.len(),
+        output.len(),
+        positions.len(),
+    )?;
+    let back = line_judge::back(which, left, right);
+    let ahead = line_judge::ahead(which, left, right);
+    output.copy_from_slice(input);
+    row_origin::across(which, back, ahead, output, positions);
+    Ok(())
 }
 
 // Filters the row `input` into the row `output`, writes to `positions` where each pixel of it came from, the latest position where several have its value, and answers 0; or answers the number of
@@ -69,23 +102,7 @@ pub fn kelafshir_filter_row_positions(
 ) -> u8
     ensures { FiltersRowPositions kind left right input.now output.old positions.old output.new positions.new result }
 {
-    let number = judge_both(
-        kind,
-        left,
-        right,
-        input.len(),
-        output.len(),
-        positions.len(),
-    );
-    if number > 0 {
-        return number;
-    }
-    let which = line_judge::kind_of(kind);
-    let back = line_judge::back(which, left, right);
-    let ahead = line_judge::ahead(which, left, right);
-    sample::grey::copy(input, output);
-    row_origin_grey::across(which, back, ahead, output, positions);
-    0
+    morph::said(filter_row_positions(kind, left, right, input, output, positions))
 }
 
 // Runs the job into the output, and answers the number at its answer's end and how many bytes that has; or 6 and none where the output is too short, and writes nothing.
@@ -93,6 +110,24 @@ pub fn kelafshir_run_job(job: &[u8], out: &mut [u8]) -> JobRun
     ensures { RunsJob job.now out.old out.new result }
 {
     job_run::run(job, out)
+}
+
+// The stages are read, and the plan that they say is applied to the picture.
+fn filter<S: InPlace>(
+    stages: &[[u8; 5]],
+    width: usize,
+    rows: usize,
+    picture: &mut [S],
+    row: &mut [S],
+) -> Filtered
+    ensures { FiltersStages S.samples stages.now width rows picture.old row.old picture.new row.new result }
+{
+    let reading = plan_read::read_stages(stages);
+    let number = reading.number;
+    if number != 0 {
+        return whole_judge::say(number);
+    }
+    whole::apply(reading.plan, width, rows, picture, row)
 }
 
 // Applies the stages, five bytes each, to the picture of grey bytes in its place, and answers 0; or answers the number of a refusal, and changes nothing.
@@ -105,13 +140,7 @@ pub fn kelafshir_filter_picture(
 ) -> Filtered
     ensures { FiltersStages greys stages.now width rows picture.old row.old picture.new row.new result }
 {
-    let reading = plan_read::read_stages(stages);
-    let number = reading.number;
-    if number != 0 {
-        return whole_judge::say(number);
-    }
-    let plan = reading.plan;
-    whole_grey::apply(plan, width, rows, picture, row)
+    filter(stages, width, rows, picture, row)
 }
 
 // Applies the stages, five bytes each, to the picture of floats in its place, and answers 0; or answers the number of a refusal, and for 8 the pixel, and changes nothing.
@@ -124,13 +153,7 @@ pub fn kelafshir_filter_rates(
 ) -> Filtered
     ensures { FiltersStages rates stages.now width rows picture.old row.old picture.new row.new result }
 {
-    let reading = plan_read::read_stages(stages);
-    let number = reading.number;
-    if number != 0 {
-        return whole_judge::say(number);
-    }
-    let plan = reading.plan;
-    whole_rate::apply(plan, width, rows, picture, row)
+    filter(stages, width, rows, picture, row)
 }
 
 // The dark residue of row number `row` of a picture of `rows` rows, counted in the band of the closing's extents: puts it at `sum` and answers 0; or answers the number of a refusal, and writes nothing.
@@ -173,7 +196,7 @@ pub fn kelafshir_worn_start(
 
 // What a pair of rows comes to: 0 or the number of a refusal; the answer, 1 for yes, 2 for no, 0 for not yet and with a refusal; and the question after it.
 #[repr(C)]
-#[derive(Clone, Copy)]
+#[derive(Clone, Copy, Debug, PartialEq, Eq)]
 pub struct WornTold {
     pub number: u8,
     pub answer: u8,
@@ -184,9 +207,7 @@ fn worn_number(answer: Worn) -> u8
     ensures { result ≡ worn_said answer }
 {
     match answer {
-        Worn::Yes => 0,
-        Worn::No => 0,
-        Worn::NotYet => 0,
+        Worn::Yes | Worn::No | Worn::NotYet => 0,
         Worn::Refused(number) => number,
     }
 }
@@ -207,11 +228,9 @@ pub fn kelafshir_worn_pair(question: Question, closed: &[u8], input: &[u8]) -> W
     ensures { TellsWorn question closed.now input.now result }
 {
     let asked = worn::pair(question, closed, input);
-    let answer = asked.answer;
-    let after = asked.question;
     WornTold {
-        number: worn_number(answer),
-        answer: worn_byte(answer),
-        question: after,
+        number: worn_number(asked.answer),
+        answer: worn_byte(asked.answer),
+        question: asked.question,
     }
 }

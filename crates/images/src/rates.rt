@@ -1,5 +1,5 @@
 // Case 12 on a picture of floats, through a window down and a look-ahead: what a refused row left in a column's queue would come out with the rows after it.
-use picture::{State, Stepped};
+use picture::{Lent, State, Stepped};
 use show::{Row, Told};
 use std::io;
 
@@ -40,27 +40,31 @@ impl Rates {
 
     fn read(&mut self, rt: &impl Print, row: [f32; 3]) -> io::Result<()> {
         print!(rt; "rate picture, row{}: ", Row(&row))?;
-        let s = picture::rate::row(
+        let s = picture::row(
             self.state,
             &row,
             &mut self.out,
-            &mut self.values,
-            &mut self.positions,
-            &mut self.starts,
-            &mut self.lengths,
+            Lent {
+                values: &mut self.values,
+                positions: &mut self.positions,
+                starts: &mut self.starts,
+                lengths: &mut self.lengths,
+            },
         );
         self.told(rt, s)
     }
 
     fn drain(&mut self, rt: &impl Print) -> io::Result<()> {
         print!(rt; "rate picture, drain: ")?;
-        let s = picture::rate::drain(
+        let s = picture::drain(
             self.state,
             &mut self.out,
-            &mut self.values,
-            &mut self.positions,
-            &mut self.starts,
-            &mut self.lengths,
+            Lent {
+                values: &mut self.values,
+                positions: &mut self.positions,
+                starts: &mut self.starts,
+                lengths: &mut self.lengths,
+            },
         );
         self.told(rt, s)
     }

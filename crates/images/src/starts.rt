@@ -9,7 +9,14 @@ fn extents(rt: &impl Print, name: &str, left: u8, right: u8, up: u8, down: u8) -
     show::started(rt, name, s)
 }
 
-fn size(rt: &impl Print, name: &str, sample: u8, width: usize, rows: usize, cells: usize) -> io::Result<()> {
+fn size(
+    rt: &impl Print,
+    name: &str,
+    sample: u8,
+    width: usize,
+    rows: usize,
+    cells: usize,
+) -> io::Result<()> {
     let mut starts = [0u8; 4096];
     let mut lengths = [0u8; 4096];
     let p = crate::single(1, 0, 0, 0);
@@ -29,8 +36,7 @@ fn stages(rt: &impl Print, name: &str, count: u8) -> io::Result<()> {
 // What to lend for a dilation whose extents are alike.
 fn needs(rt: &impl Print, name: &str, extent: u8, width: usize) -> io::Result<()> {
     let n = plan::needs(crate::single(extent, extent, extent, extent), width);
-    println!(
-        rt;
+    println!(rt;
         "plan needs, {name}: {}, cells {}, records {}, look-ahead {}",
         n.number, n.cells, n.records, n.ahead
     )

@@ -1,28 +1,40 @@
 -- Laws of the readers: the number of each group by its tests, and what holds where a group is accepted.
 use mathlib.Core.Path.{◌≡◌, refl, sym, ap, ◌∙◌}
 use mathlib.Core.List.{List, [], ◌∷◌, ◌++◌}
-use Prim.Native.Nat.{ℕ, ◌+◌, ◌-◌, ◌*◌, ◌≤◌, ◌<◌}
-use native.Mathlib.Nat.{add-zero}
+use Prim.Native.Nat.{ℕ, zero, suc, ◌+◌, ◌-◌, ◌*◌, ◌≤◌, ◌<◌}
 use native.Mathlib.Omega.{arith}
 use borrow.Author.Tests.{lt-ltb, le-ltb, eq-eqb, ne_eqb, ltb-false, eqb-true}
 use lib.Dec.{eqb, ltb}
 use lib.ListN.{length, get_or, take, drop, length-drop, get_or-append}
-use lib.Seq.{get_or-drop, get_or-take, length-take-le}
+use lib.Seq.{get_or-take, length-take-le}
 use Rattle.morph.proofs.Lists.{split, length_tabulate, tabulate_ext}
 use Rattle.morph.specs.Numbers.{given, first_of}
 use Rattle.morph.proofs.Numbers.{first_one, first_zero, given_zero, skip, found}
+use Rattle.std.specs.Prelude.{Result, Ok, Err}
+use Rattle.std.specs.Result.{IsErrAnd}
+use Rattle.morph.specs.declared.refusal.Refusal.{Refusal}
+use Rattle.morph.specs.Refusals.{refusal_number}
+use Rattle.plan_record.proofs.Exits.{refused_some}
 use Rattle.plan_record.specs.declared.Plan.{Plan}
 use Rattle.plan_record.specs.declared.Reading.{Reading}
 use Rattle.plan_record.specs.Numbers.{sample_number, size_number}
-use Rattle.plan_record.specs.Plan.{plan_of, count_number, stage_out_of, stage_number, stages_from, stages_number, plan_number, plan_read, reading_of}
+use Rattle.plan_record.specs.Plan.{plan_of, count_number, stage_number, stage_out_of, stages_from, stages_number, plan_number, plan_read, reading_of}
+use Rattle.plan_record.specs.Inner.{reading_as}
 use Rattle.plan_record.proofs.Numbers.{size_accepted}
-use Rattle.plan_record.proofs.Laws.{refused_answer, count_accepted}
+use Rattle.plan_record.proofs.Laws.{refused_answer, reading_refused, count_accepted}
 use Rattle.plan_record.proofs.Named.{counted}
 use Rattle.job_read.specs.declared.Job.{Job}
 use Rattle.job_read.specs.declared.Head.{Head}
-use Rattle.job_read.specs.declared.JobRead.{JobRead}
+use Rattle.job_read.specs.declared.Image.{Image}
+use Rattle.job_read.specs.Inner.{head_as, read_as, front_number}
 use Rattle.job_read.specs.Layout.{row_bytes, head_begins, width_from, rows_from, job_from}
-use Rattle.job_read.specs.Job.{missing, plan_section_number, plan_section_of, head_number, head_answered, head_section_number, rows_number, job_number, no_job, job_read_of}
+use Rattle.job_read.specs.Job.{missing, plan_section_number, plan_section_of, head_number, head_answered, head_section_number, rows_number, job_number, job_answered, job_read_of}
+
+-- a rule that is broken decides, whatever comes behind
+pub first_front : (l m : List ℕ) → (first_of l ≡ 0 → ⊥) → first_of (l ++ m) ≡ first_of l
+first_front [] m h = absurd (h refl)
+first_front (zero ∷ l) m h = first_front l m h
+first_front (suc n ∷ l) m h = refl
 
 -- ---- bytes that are there
 
@@ -120,14 +132,22 @@ module _ (bytes : List ℕ) {part : List ℕ} (some : 1 ≤ length bytes) (few :
       let s : stages_from c (part ++ pad) ≡ stages_from c (drop 1 bytes) = same_stages c (part ++ pad) (drop 1 bytes) (agree pad) in
       q ∙ ap (λ (m : ℕ). reading_of m (plan_of (stages_from c (part ++ pad)))) (sym m) ∙ ap (λ ss. reading_of (plan_section_number bytes) (plan_of ss)) s
 
-pub section_refused : (bytes : List ℕ) {r : Reading} {n : ℕ} → r ≡ record { number = n; plan = plan_of [] } → n ≡ plan_section_number bytes → (n ≡ 0 → ⊥) → r ≡ plan_section_of bytes
+pub section_refused : (bytes : List ℕ) {n : ℕ} → n ≡ plan_section_number bytes → (n ≡ 0 → ⊥) → record { number = n; plan = plan_of [] } ≡ plan_section_of bytes
 unfolding plan_section_of
-section_refused bytes e q h = refused_answer (plan_of (stages_from (get_or bytes 0 0) (drop 1 bytes))) e q h
+section_refused bytes q h = refused_answer (plan_of (stages_from (get_or bytes 0 0) (drop 1 bytes))) refl q h
+
+pub section_up : (bytes : List ℕ) (why : Refusal) (r : Result Plan Refusal) → IsErrAnd r (λ e. e ≡ why) → refusal_number why ≡ plan_section_number bytes → reading_as r ≡ plan_section_of bytes
+unfolding plan_section_of
+section_up bytes why r h e = reading_refused (plan_of (stages_from (get_or bytes 0 0) (drop 1 bytes))) why r h e
 
 -- ---- the image head
 
 pub head_refused : (head : List ℕ) {r : Head} {n m : ℕ} → r ≡ record { number = n; sample = 0; width = 0; rows = 0 } → n ≡ m → (n ≡ 0 → ⊥) → r ≡ head_answered m head
 head_refused head {r} {n} {m} e q h = e ∙ (let f = ne_eqb n 0 h in cc)
+
+pub head_up : (head : List ℕ) (why : Refusal) (r : Result Image Refusal) {m : ℕ} → IsErrAnd r (λ e. e ≡ why) → refusal_number why ≡ m → head_as r ≡ head_answered m head
+head_up head why (Ok _) h e = absurd h
+head_up head why (Err x) h e = head_refused head refl (ap refusal_number h ∙ e) (refused_some x)
 
 pub head_accepted : (head : List ℕ) {m s w h : ℕ} → m ≡ 0 → s ≡ get_or head 0 0 → w ≡ width_from head → h ≡ rows_from head → record { number = 0; sample = s; width = w; rows = h } ≡ head_answered m head
 head_accepted head {m} z p q r = let f = eq-eqb m 0 z in cc
@@ -173,14 +193,17 @@ module _ (bytes : List ℕ) (at : ℕ) where
       (there (at + 5) bytes a.0, sym (first_one (head_number (drop at bytes))) ∙ a.1)
 
   abbrev five_at : List ℕ
-  five_at = get_or bytes at 0 ∷ get_or bytes (at + 1) 0 ∷ get_or bytes (at + 2) 0 ∷ get_or bytes (at + 3) 0 ∷ get_or bytes (at + 4) 0 ∷ []
+  five_at = take 5 (drop at bytes)
+
+  five_byte : (k : ℕ) → k < 5 → get_or five_at k 0 ≡ get_or (drop at bytes) k 0
+  five_byte k h = get_or-take 5 (drop at bytes) k 0 h
 
   five_number : head_number five_at ≡ head_number (drop at bytes)
   unfolding head_number
-  five_number = simp (get_or-drop, add-zero)
+  five_number = cc (five_byte 0 (omega arith), five_byte 1 (omega arith), five_byte 2 (omega arith), five_byte 3 (omega arith), five_byte 4 (omega arith))
 
   five_answer : (m : ℕ) → head_answered m five_at ≡ head_answered m (drop at bytes)
-  five_answer m = simp (get_or-drop, add-zero)
+  five_answer m = cc (five_byte 0 (omega arith), five_byte 1 (omega arith), five_byte 2 (omega arith), five_byte 3 (omega arith), five_byte 4 (omega arith))
 
   pub section_five : {r : Head} {head : List ℕ} → at + 5 ≤ length bytes → head ≡ five_at → r ≡ head_answered (head_number head) head → r ≡ head_answered (head_section_number bytes at) (drop at bytes)
   section_five h e q =
@@ -216,6 +239,18 @@ rows_there bytes job e =
     let c = ltb-false n (length bytes) (given_zero 13 (ltb n (length bytes)) (sym (first_one (given 14 (ltb n (length bytes)))) ∙ a.1)) in
     omega arith
 
+-- ---- a job that is refused or read, as the record that says it
+
+pub read_up : (job : Job) (why : Refusal) (r : Result Job Refusal) {m : ℕ} → IsErrAnd r (λ e. e ≡ why) → refusal_number why ≡ m → read_as r ≡ job_answered m job
+read_up job why (Ok _) h e = absurd h
+read_up job why (Err x) {m} h e = let z = refused_some x in let g = ap refusal_number h ∙ e in let f = ne_eqb m 0 (λ q. z (g ∙ q)) in cc
+
+pub read_taken : (job : Job) {m : ℕ} {got : Job} → 0 ≡ m → got ≡ job → read_as (Ok got) ≡ job_answered m job
+read_taken job {m} z e = let f = eq-eqb m 0 (sym z) in cc
+
+pub read_says : (job : Job) {m : ℕ} {got : Job} → read_as (Ok got) ≡ job_answered m job → (0 ≡ m) × (got ≡ job)
+read_says job {m} e = let z = ap (λ r. r.number) e in (z, ap (λ r. r.job) e ∙ simp (eq-eqb m 0 (sym z)))
+
 -- ---- the whole job, group by group
 
 module _ (bytes : List ℕ) where
@@ -225,13 +260,23 @@ module _ (bytes : List ℕ) where
   abbrev rows_no : ℕ
   rows_no = rows_number bytes (job_from bytes)
 
-  pub job_plan : {n : ℕ} → n ≡ plan_section_number bytes → (n ≡ 0 → ⊥) → n ≡ job_number bytes
-  unfolding job_number
-  job_plan e h = found (plan_section_number bytes) (head_no ∷ rows_no ∷ []) e h
+  -- what stands before the rows
+  pub front_plan : {n : ℕ} → n ≡ plan_section_number bytes → (n ≡ 0 → ⊥) → n ≡ front_number bytes
+  unfolding front_number
+  front_plan e h = found (plan_section_number bytes) (head_no ∷ []) e h
 
-  pub job_head : {n : ℕ} → plan_section_number bytes ≡ 0 → n ≡ head_no → (n ≡ 0 → ⊥) → n ≡ job_number bytes
-  unfolding job_number
-  job_head p e h = skip (plan_section_number bytes) (head_no ∷ rows_no ∷ []) p (found head_no (rows_no ∷ []) e h)
+  pub front_head : {n : ℕ} → plan_section_number bytes ≡ 0 → n ≡ head_no → n ≡ front_number bytes
+  unfolding front_number
+  front_head p e = skip (plan_section_number bytes) (head_no ∷ []) p (e ∙ sym (first_one head_no))
+
+  pub front_there : front_number bytes ≡ 0 → (plan_section_number bytes ≡ 0) × (head_no ≡ 0)
+  unfolding front_number
+  front_there e = let a = first_zero (plan_section_number bytes) (head_no ∷ []) e in (a.0, sym (first_one head_no) ∙ a.1)
+
+  -- and then the rows
+  pub job_front : {n : ℕ} → n ≡ front_number bytes → (n ≡ 0 → ⊥) → n ≡ job_number bytes
+  unfolding job_number front_number
+  job_front e h = e ∙ sym (first_front (plan_section_number bytes ∷ head_no ∷ []) (rows_no ∷ []) (λ z. h (e ∙ z)))
 
   pub job_rows : {n : ℕ} → plan_section_number bytes ≡ 0 → head_no ≡ 0 → n ≡ rows_no → n ≡ job_number bytes
   unfolding job_number
@@ -243,10 +288,6 @@ module _ (bytes : List ℕ) where
       let a = first_zero (plan_section_number bytes) (head_no ∷ rows_no ∷ []) e in
       let b = first_zero head_no (rows_no ∷ []) a.1 in
       (a.0, b.0, sym (first_one rows_no) ∙ b.1)
-
-  pub job_refused : {r : JobRead} {n : ℕ} → r ≡ record { number = n; job = no_job } → n ≡ job_number bytes → (n ≡ 0 → ⊥) → r ≡ job_read_of bytes
-  unfolding job_read_of
-  job_refused {r} {n} e q h = e ∙ (let f = ne_eqb n 0 h in cc)
 
   pub job_accepted : {n : ℕ} {job : Job} → n ≡ job_number bytes → n ≡ 0 → job ≡ job_from bytes → record { number = 0; job = job } ≡ job_read_of bytes
   unfolding job_read_of
@@ -299,6 +340,15 @@ head_read bytes end {h} e z =
     let w = ap (λ h. h.width) f in
     let r = ap (λ h. h.rows) f in
     record { zero = n; sample = ap (λ h. h.sample) f; width = w; rows = r; there = s.0; narrow = omega (arith, w, t.width); few = omega (arith, r, t.rows) }
+
+-- where the rows of a job begin that is refused nothing before them, and its size
+pub front_sized : (bytes : List ℕ) → front_number bytes ≡ 0 → ((job_from bytes).at ≤ length bytes) × ((job_from bytes).width ≤ 4096) × ((job_from bytes).rows ≤ 65535)
+unfolding job_from
+front_sized bytes z =
+    let end = head_begins (get_or bytes 0 0) in
+    let s = head_section_there bytes end (front_there bytes z).1 in
+    let t = head_there (drop end bytes) s.1 in
+    (s.0, t.width, t.rows)
 
 pub same_job : (bytes : List ℕ) {plan : Plan} {sample width rows at end : ℕ} → plan ≡ plan_of (stages_from (get_or bytes 0 0) (drop 1 bytes)) → end ≡ head_begins (get_or bytes 0 0)
     → sample ≡ get_or (drop end bytes) 0 0 → width ≡ width_from (drop end bytes) → rows ≡ rows_from (drop end bytes) → at ≡ end + 5

@@ -1,2 +1,3 @@
 pub mod Layout
 pub mod Job
+pub mod Inner

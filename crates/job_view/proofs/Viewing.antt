@@ -2,69 +2,21 @@
 use mathlib.Core.Path.{◌≡◌, refl, sym, ap, ◌∙◌}
 use mathlib.Core.Bool.{Bool, true, false, not, ◌||◌, ◌&&◌, false≢true}
 use mathlib.Core.List.{List, [], ◌∷◌}
-use Prim.Native.Nat.{ℕ, zero, suc, ◌+◌, ◌-◌, ◌*◌, ◌/◌, ◌≤◌, ◌<◌}
-use native.Mathlib.Nat.{mul-zero, mul_assoc, le-div_iff_mul-le, le-mul_of_pos_right, mul-le-mul_right, suc-sub-suc, sub-zero, zero-sub}
+use Prim.Native.Nat.{ℕ, zero, suc, ◌+◌, ◌-◌, ◌*◌, ◌≤◌, ◌<◌}
+use native.Mathlib.Nat.{mul-le-mul_right, suc-sub-suc, sub-zero, zero-sub}
 use native.Mathlib.Omega.{arith}
-use borrow.Author.Tests.{leb-true, leb-false, le-leb, lt-leb, ltb-false, lt-ltb, ne_eqb, eq-eqb}
+use borrow.Author.Tests.{leb-true, ltb-false, lt-ltb, ne_eqb, eq-eqb}
 use lib.Dec.{leb, ltb}
 use lib.ListN.{length, take, drop}
 use lib.Seq.{slice, slice_empty, take-nil}
-use Rattle.morph.proofs.Lists.{split, neither}
+use Rattle.morph.specs.declared.refusal.Refusal.{Refusal}
+use Rattle.morph.specs.Refusals.{refusal_number}
+use Rattle.plan_record.proofs.Exits.{refused_some}
+use Rattle.morph.proofs.Lists.{neither}
 use Rattle.morph.proofs.Numbers.{given_zero}
 use Rattle.job_read.specs.declared.Job.{Job}
-use Rattle.job_read.specs.Layout.{sample_bytes_of, row_bytes}
+use Rattle.job_read.specs.Layout.{row_bytes}
 use Rattle.job_view.specs.View.{row_begins, is_there_to, view_number, viewed}
-
--- ---- what fits
-
-pub fits_none : (count size room : ℕ) → size ≡ 0 → true ≡ leb (count * size) room
-fits_none count size room e = sym (le-leb (count * size) room (rw (e, mul-zero count) (omega arith)))
-
-pub fits_some : (count size room : ℕ) → (size ≡ 0 → ⊥) → leb count (room / size) ≡ leb (count * size) room
-fits_some count size room h =
-    let pos : 0 < size = omega (arith, h) in
-    split (leb count (room / size))
-    (λ p. p ∙ sym (le-leb (count * size) room ((le-div_iff_mul-le pos).0 (leb-true count (room / size) p))))
-    (λ p. split (leb (count * size) room)
-    (λ q. absurd (let l = leb-false count (room / size) p in let k : count ≤ room / size = (le-div_iff_mul-le pos).1 (leb-true (count * size) room q) in omega arith))
-    (λ q. p ∙ sym q))
-
-pub some_bytes : (sample : ℕ) → 1 ≤ sample_bytes_of sample
-some_bytes zero = omega arith
-some_bytes (suc n) = omega arith
-
-leb_shift : (x at len : ℕ) → at ≤ len → leb x (len - at) ≡ leb (at + x) len
-leb_shift x at len h =
-    split (leb x (len - at))
-    (λ p. p ∙ sym (le-leb (at + x) len (let l = leb-true x (len - at) p in omega arith)))
-    (λ p. p ∙ sym (lt-leb (at + x) len (let l = leb-false x (len - at) p in omega arith)))
-
--- ---- which rows are there
-
-module _ (bytes : List ℕ) (job : Job) (j : ℕ) where
-  pub there_sample : 1 < job.sample → false ≡ is_there_to bytes job j
-  there_sample h = simp (lt-leb job.sample 1 h)
-
-  module _ (known : job.sample ≤ 1) where
-    short : length bytes < row_begins job j → false ≡ is_there_to bytes job j
-    short h = simp (le-leb job.sample 1 known, lt-leb (row_begins job j) (length bytes) h)
-
-    pub there_start : length bytes < job.at → false ≡ is_there_to bytes job j
-    there_start h = short (omega arith)
-
-    module _ (inside : job.at ≤ length bytes) {size : ℕ} (e : size ≡ sample_bytes_of job.sample) (some : 1 ≤ size) where
-      pub there_short : {r : Bool} → r ≡ leb (j * job.width) (length bytes - job.at) → r ≡ false → false ≡ is_there_to bytes job j
-      there_short q f =
-          let l = leb-false (j * job.width) (length bytes - job.at) (sym q ∙ f) in
-          let m : j * job.width ≤ j * job.width * size = le-mul_of_pos_right (j * job.width) some in
-          let a : j * job.width * size ≡ j * row_bytes job = ap (λ (k : ℕ). j * job.width * k) e ∙ mul_assoc j job.width (sample_bytes_of job.sample) in
-          short (omega arith)
-
-      pub there_exact : {r : Bool} → r ≡ leb (j * job.width * size) (length bytes - job.at) → r ≡ is_there_to bytes job j
-      there_exact {r} q =
-          let a : j * job.width * size ≡ j * row_bytes job = ap (λ (k : ℕ). j * job.width * k) e ∙ mul_assoc j job.width (sample_bytes_of job.sample) in
-          let b : r ≡ leb (row_begins job j) (length bytes) = q ∙ leb_shift (j * job.width * size) job.at (length bytes) inside ∙ ap (λ (x : ℕ). leb (job.at + x) (length bytes)) a in
-          simp (le-leb job.sample 1 known) b
 
 -- ---- the part
 
@@ -114,18 +66,18 @@ slice_part (suc a) zero l = rw (zero-sub (suc a))
 slice_part (suc a) (suc e) [] = rw (take-nil {A = ℕ} (suc e - suc a))
 slice_part (suc a) (suc e) (x ∷ l) = rw (suc-sub-suc e a) (slice_part a e l)
 
-module _ (bytes : List ℕ) (job : Job) (i j : ℕ) {n : ℕ} (e : n ≡ view_number bytes job i j) where
-  pub view_refused : (n ≡ 0 → ⊥) → [] ≡ viewed bytes job i j
+module _ (bytes : List ℕ) (job : Job) (i j : ℕ) where
+  pub view_refused : (why : Refusal) → refusal_number why ≡ view_number bytes job i j → [] ≡ viewed bytes job i j
   unfolding viewed
-  view_refused h = simp (ne_eqb (view_number bytes job i j) 0 (λ z. h (e ∙ z)))
+  view_refused why e = simp (ne_eqb (view_number bytes job i j) 0 (λ z. refused_some why (e ∙ z)))
 
-  module _ (z : n ≡ 0) where
+  module _ (z : 0 ≡ view_number bytes job i j) where
     pub view_none : i ≡ j → [] ≡ viewed bytes job i j
     unfolding viewed
     view_none q =
-        simp (eq-eqb (view_number bytes job i j) 0 (sym e ∙ z))
+        simp (eq-eqb (view_number bytes job i j) 0 (sym z))
         (sym (ap (λ (k : ℕ). slice (row_begins job k) (row_begins job j) bytes) q ∙ slice_empty (row_begins job j) bytes))
 
     pub view_part : {a b : ℕ} → a ≡ row_begins job i → b ≡ row_begins job j → take (b - a) (drop a bytes) ≡ viewed bytes job i j
     unfolding viewed
-    view_part p q = simp (eq-eqb (view_number bytes job i j) 0 (sym e ∙ z), p, q) (sym (slice_part (row_begins job i) (row_begins job j) bytes))
+    view_part p q = simp (eq-eqb (view_number bytes job i j) 0 (sym z), p, q) (sym (slice_part (row_begins job i) (row_begins job j) bytes))

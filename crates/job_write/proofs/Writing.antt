@@ -1,6 +1,6 @@
 -- Laws of bytes stored one after another.
 use mathlib.Core.Path.{◌≡◌, refl, sym, ap, ◌∙◌}
-use mathlib.Core.List.{List, [], ◌∷◌, ◌++◌}
+use mathlib.Core.List.{List, [], ◌∷◌, ◌++◌, append_assoc}
 use Prim.Native.Nat.{ℕ, zero, suc, ◌+◌, ◌*◌, ◌≤◌, ◌<◌}
 use native.Mathlib.Nat.{add-zero, add-suc, suc-add}
 use native.Mathlib.Numerals.{add-one}
@@ -8,9 +8,16 @@ use native.Mathlib.Omega.{arith}
 use borrow.Author.Tests.{lt-ltb, le-ltb, eq-eqb, ne_eqb}
 use lib.Dec.{ltb}
 use lib.ListN.{length, get_or, take, drop, set, length-append}
-use lib.Seq.{sets, take-suc, length-take-le, sets-eq}
+use borrow.Rule.Slice.PartMut.{put_mid}
+use lib.Seq.{sets, take-suc, length-take-le, sets-eq, drop-drop}
 use Rattle.morph.specs.Numbers.{given, first_of}
 use Rattle.morph.proofs.Numbers.{skip, found}
+use Rattle.std.specs.Prelude.{Result, Ok, Err}
+use Rattle.std.specs.Result.{IsErrAnd}
+use Rattle.morph.specs.declared.refusal.Refusal.{Refusal}
+use Rattle.morph.specs.Refusals.{refusal_number}
+use Rattle.morph.proofs.Exits.{refused_some}
+use Rattle.job_write.specs.Inner.{written_as}
 use Rattle.plan_record.specs.declared.Stage.{Stage}
 use Rattle.plan_record.specs.Numbers.{sample_number, size_number}
 use Rattle.plan_record.specs.Plan.{used, record_number}
@@ -21,16 +28,10 @@ use Rattle.job_write.specs.Write.{write_number, written_of, Wrote}
 
 -- ---- stores
 
-pub five_sets : (l : List ℕ) (at a b c d e : ℕ) → set (set (set (set (set l at a) (at + 1) b) (at + 2) c) (at + 3) d) (at + 4) e ≡ sets l at (a ∷ b ∷ c ∷ d ∷ e ∷ [])
-five_sets l at a b c d e =
-    let p : at + 1 ≡ suc at = omega arith in
-    let q : at + 2 ≡ suc (suc at) = omega arith in
-    let r : at + 3 ≡ suc (suc (suc at)) = omega arith in
-    let s : at + 4 ≡ suc (suc (suc (suc at))) = omega arith in
-    rw (p, q, r, s) refl
-
-pub five_bytes : (a : ℕ) {b c d e b' c' d' e' : ℕ} → b ≡ b' → c ≡ c' → d ≡ d' → e ≡ e' → ◌≡◌ {A = List ℕ} (a ∷ b ∷ c ∷ d ∷ e ∷ []) (a ∷ b' ∷ c' ∷ d' ∷ e' ∷ [])
-five_bytes a p q r s = cc
+pub put_sets : (l part new : List ℕ) (at k : ℕ) → new ≡ part → length part ≡ k → at + k ≤ length l → put_mid at k l new ≡ sets l at part
+put_sets l part new at k e n h =
+    ap (λ m. take at l ++ (m ++ drop k (drop at l))) e ∙ ap (λ m. take at l ++ (part ++ m)) (drop-drop k at l ∙ ap (λ (m : ℕ). drop (at + m) l) (sym n))
+    ∙ sym (sets-eq part l at (omega arith) ∙ append_assoc (take at l) part (drop (at + length part) l))
 
 pub sets_append : (l : List ℕ) (i : ℕ) (vs ws : List ℕ) → sets (sets l i vs) (i + length vs) ws ≡ sets l i (vs ++ ws)
 sets_append l i [] ws = rw (add-zero i)
@@ -127,6 +128,10 @@ module _ (job : Job) (out : List ℕ) where
 
   pub wrote_refused : {n : ℕ} → n ≡ write_number job out → (n ≡ 0 → ⊥) → Wrote job out out (Refused n)
   wrote_refused {n} e h = wrote_number n e h
+
+  pub wrote_up : (why : Refusal) (r : Result ℕ Refusal) → IsErrAnd r (λ e. e ≡ why) → refusal_number why ≡ write_number job out → Wrote job out out (written_as r)
+  wrote_up why (Ok _) h e = absurd h
+  wrote_up why (Err x) h e = wrote_refused (ap refusal_number h ∙ e) (refused_some x)
 
   pub wrote : {out' : List ℕ} → 0 ≡ write_number job out → out' ≡ encode job ++ drop (pixels_begin job.plan.count) out → Wrote job out out' (Bytes (pixels_begin job.plan.count))
   wrote e f =

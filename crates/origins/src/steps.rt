@@ -3,7 +3,7 @@ use crate::head::Head;
 use crate::input;
 use crate::kind::Pixel;
 use crate::told::Whole;
-use picture::{State, Stepped};
+use picture::{Lent, OriginLent, OriginRows, State, Stepped};
 use show::{Row, Told};
 use std::{fmt, io};
 
@@ -38,9 +38,9 @@ impl fmt::Display for Call {
     }
 }
 
-// What a step is lent. The ring is the columns.
+// What a call is lent: a row, the rows that come out, and the memory.
 #[derive(Drop)]
-struct Lent<'a, S> {
+struct Loan<'a, S> {
     pixels: &'a [S],
     out: &'a mut [S],
     rows: &'a mut [usize],
@@ -52,49 +52,45 @@ struct Lent<'a, S> {
     lengths: &'a mut [u8],
 }
 
-impl<S: Pixel> Lent<'_, S> {
+impl<S: Pixel> Loan<'_, S> {
+    // A row, or a drain.
     fn step(&mut self, call: Call, s: State) -> Stepped {
+        let lent = Lent {
+            values: &mut *self.values,
+            positions: &mut *self.positions,
+            starts: &mut *self.starts,
+            lengths: &mut *self.lengths,
+        };
+        if call == Call::Row {
+            return picture::row(s, self.pixels, self.out, lent);
+        }
+        picture::drain(s, self.out, lent)
+    }
+
+    // The same, asking for origins.
+    fn origin_step(&mut self, call: Call, s: State) -> Stepped {
+        let rows = OriginRows {
+            pixels: &mut *self.out,
+            rows: &mut *self.rows,
+            columns: &mut *self.from,
+        };
+        let lent = OriginLent {
+            values: &mut *self.values,
+            positions: &mut *self.positions,
+            columns: &mut *self.columns,
+            starts: &mut *self.starts,
+            lengths: &mut *self.lengths,
+        };
+        if call == Call::OriginRow {
+            return picture::origin_row(s, self.pixels, rows, lent);
+        }
+        picture::origin_drain(s, rows, lent)
+    }
+
+    fn call(&mut self, call: Call, s: State) -> Stepped {
         match call {
-            Call::Row => S::row(
-                s,
-                self.pixels,
-                self.out,
-                self.values,
-                self.positions,
-                self.starts,
-                self.lengths,
-            ),
-            Call::Drain => S::drain(
-                s,
-                self.out,
-                self.values,
-                self.positions,
-                self.starts,
-                self.lengths,
-            ),
-            Call::OriginRow => S::origin_row(
-                s,
-                self.pixels,
-                self.out,
-                self.rows,
-                self.from,
-                self.values,
-                self.positions,
-                self.columns,
-                self.starts,
-                self.lengths,
-            ),
-            Call::OriginDrain => S::origin_drain(
-                s,
-                self.out,
-                self.rows,
-                self.from,
-                self.values,
-                self.positions,
-                self.columns,
-                self.starts,
-                self.lengths,
-            ),
+            Call::Row | Call::Drain => self.step(call, s),
+            Call::OriginRow | Call::OriginDrain => self.origin_step(call, s),
         }
     }
 
@@ -132,7 +128,7 @@ fn step<S: Pixel>(
     let mut columns = [0u16; 4096];
     let mut starts = [0u8; 4096];
     let mut lengths = [0u8; 4096];
-    let mut lent = Lent {
+    let mut loan = Loan {
         pixels: input::slice(rt, head.lent(0), pixels),
         out: input::slice(rt, head.lent(1), out),
         rows: input::slice(rt, head.lent(2), &mut rows),
@@ -144,14 +140,14 @@ fn step<S: Pixel>(
         lengths: input::slice(rt, head.lent(8), &mut lengths),
     };
     let call = Call::from(head.command());
-    let s = lent.step(call, head.state());
+    let s = loan.call(call, head.state());
     print!(rt;
         "{} {call}: {}{}",
         S::name(),
         Told(s.answer),
         Whole(s.state)
     )?;
-    lent.tell(rt)
+    loan.tell(rt)
 }
 
 pub fn grey(rt: &(impl Print + Input), head: &Head) -> io::Result<()> {

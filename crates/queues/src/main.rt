@@ -1,8 +1,7 @@
 // A plan of 3 stages over a picture of grey bytes, step by step with its queues, calls out of turn, and states and records that rule 12 refuses. The output row is shown after every call: it stays as it was where no row came.
 #![tactic(auto)]
 
-use picture::State;
-use picture::grey::ReadOut;
+use picture::{Lent, State};
 use show::{Row, Told};
 use std::io;
 
@@ -57,7 +56,7 @@ impl Greys {
         column: usize,
         place: usize,
     ) -> io::Result<bool> {
-        let shown = picture::grey::read_out(
+        let shown = picture::read_out(
             self.state,
             stage,
             column,
@@ -68,12 +67,12 @@ impl Greys {
             &self.lengths,
         );
         match shown {
-            ReadOut::Found(e) => {
+            Ok(e) => {
                 print!(rt; " {}@{}", e.value, e.position)?;
                 Ok(true)
             }
-            ReadOut::Refused(number) => {
-                print!(rt; " -{number}")?;
+            Err(refusal) => {
+                print!(rt; " -{}", refusal.number())?;
                 Ok(false)
             }
         }
@@ -101,14 +100,16 @@ impl Greys {
     }
 
     fn offer(&mut self, rt: &impl Print, row: &[u8]) -> io::Result<()> {
-        let s = picture::grey::row(
+        let s = picture::row(
             self.state,
             row,
             &mut self.out,
-            &mut self.values,
-            &mut self.positions,
-            &mut self.starts,
-            &mut self.lengths,
+            Lent {
+                values: &mut self.values,
+                positions: &mut self.positions,
+                starts: &mut self.starts,
+                lengths: &mut self.lengths,
+            },
         );
         self.state = s.state;
         print!(rt; "{}", Told(s.answer))?;
@@ -127,13 +128,15 @@ impl Greys {
 
     fn drain(&mut self, rt: &impl Print) -> io::Result<()> {
         print!(rt; "grey picture, drain: ")?;
-        let s = picture::grey::drain(
+        let s = picture::drain(
             self.state,
             &mut self.out,
-            &mut self.values,
-            &mut self.positions,
-            &mut self.starts,
-            &mut self.lengths,
+            Lent {
+                values: &mut self.values,
+                positions: &mut self.positions,
+                starts: &mut self.starts,
+                lengths: &mut self.lengths,
+            },
         );
         self.state = s.state;
         print!(rt; "{}", Told(s.answer))?;
@@ -145,14 +148,16 @@ impl Greys {
         let mut r = *self;
         let mut values = [0u8; 20];
         print!(rt; "grey picture, a row on 20 cells: ")?;
-        let s = picture::grey::row(
+        let s = picture::row(
             r.state,
             &[7, 2, 9],
             &mut r.out,
-            &mut values,
-            &mut r.positions,
-            &mut r.starts,
-            &mut r.lengths,
+            Lent {
+                values: &mut values,
+                positions: &mut r.positions,
+                starts: &mut r.starts,
+                lengths: &mut r.lengths,
+            },
         );
         println!(rt; "{}", Told(s.answer))
     }

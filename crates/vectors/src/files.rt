@@ -1,34 +1,23 @@
 // The files of data/: a letter and three digits. A file is read piece by piece, and what is past its end is 0.
-
 use std::fmt::InlineText;
 use std::fs::File;
+use std::io;
 use std::io::Read;
 use std::rt::Files;
 
 // Opens file n of a letter and writes its name; nothing where there is none.
-pub fn open<R: Print + Files>(rt: &R, letter: u8, n: u8) -> Option<R::File> {
-    let letter = char::from(letter);
+pub fn open<R: Print + Files>(rt: &R, letter: char, n: u8) -> io::Result<Option<R::File>> {
     let name = InlineText::<4>::of(format_args!("{letter}{n:03}"));
-    let from = File::open(rt, name.as_str()).ok()?;
-    show::text(rt, name.as_str().as_bytes());
-    Some(from)
+    let Ok(from) = File::open(rt, name.as_str()) else {
+        return Ok(None);
+    };
+    print!(rt; "{}", name.as_str())?;
+    Ok(Some(from))
 }
 
-pub fn byte(from: &mut impl Read) -> u8 {
-    let mut bytes = [0u8; 1];
+// So many bytes that stand next.
+pub fn bytes<const N: usize>(from: &mut impl Read) -> [u8; N] {
+    let mut bytes = [0; N];
     let _ = from.read_exact(&mut bytes);
-    bytes[0]
-}
-
-// A number of two bytes, the low one first.
-pub fn number(from: &mut impl Read) -> usize {
-    let low = morph::wide(byte(from));
-    let high = morph::wide(byte(from));
-    low + high * 256
-}
-
-pub fn float(from: &mut impl Read) -> f32 {
-    let mut bytes = [0u8; 4];
-    let _ = from.read_exact(&mut bytes);
-    sample::rate::from_bytes(&bytes, 0)
+    bytes
 }

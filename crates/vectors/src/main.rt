@@ -2,27 +2,28 @@
 // compared with the file stdout.
 #![tactic(auto)]
 
+use std::io;
+
 mod files; // files.rt: the files of data/
 mod firm; // firm.rt: the firmware's one-row filter
-mod grey; // grey.rt: lines of grey bytes
-mod grey_lines; // grey_lines.rt: whole lines of grey bytes
 mod jobs; // jobs.rt: whole jobs
-mod rate; // rate.rt: lines of floats
-mod rate_lines; // rate_lines.rt: whole lines of floats
+mod kind; // kind.rt: the two kinds of sample
+mod lines; // lines.rt: whole lines
+mod steps; // steps.rt: lines step by step
 
-fn main(rt: HostRuntime) {
-    grey::starts(&rt);
-    grey::line_p(&rt);
-    grey::out_of_turn(&rt);
-    rate::starts(&rt);
-    rate::case_12(&rt);
-    rate::zeros(&rt);
-    firm::rows(&rt);
-    firm::refusals(&rt);
-    show::text(&rt, b"lines\n");
-    grey_lines::all(&rt);
-    grey_lines::longest(&rt);
-    rate_lines::all(&rt);
-    show::text(&rt, b"jobs\n");
-    jobs::all(&rt);
+fn main(rt: HostRuntime) -> io::Result<()> {
+    steps::starts::<u8>(&rt)?;
+    steps::line_p(&rt)?;
+    steps::out_of_turn(&rt)?;
+    steps::starts::<f32>(&rt)?;
+    steps::case_12(&rt)?;
+    steps::zeros(&rt)?;
+    firm::rows(&rt)?;
+    firm::refusals(&rt)?;
+    println!(rt; "lines")?;
+    lines::all::<u8>(&rt)?;
+    lines::longest(&rt)?;
+    lines::all::<f32>(&rt)?;
+    println!(rt; "jobs")?;
+    jobs::all(&rt)
 }

@@ -2,24 +2,8 @@
 use mathlib.Core.Path.{◌≡◌, ap}
 use Prim.Native.Nat.{ℕ, ◌*◌}
 use Rattle.job_read.specs.Layout.{row_bytes}
-use Rattle.plan_record.proofs.Laws.{mul_most}
 use Rattle.job_read.proofs.Sections.{rows_missing, rows_over, rows_exact}
-use native.Mathlib.Omega.{arith}
 use Rattle.job_read.proofs.judge_length.Goals as goal
-
-pub overflow_mul-need : goal.overflow_mul-need
-overflow_mul-need c =
-    let a = c.args in
-    let w = mul_most a.job.width c.sample_bytes.result 4096 4 (omega arith) (omega arith) in
-    let m = mul_most a.job.rows (a.job.width * c.sample_bytes.result) 65535 16384 (omega arith) (omega arith) in
-    omega arith
-
-pub overflow_mul-need-2 : goal.overflow_mul-need-2
-overflow_mul-need-2 c =
-    let a = c.args in
-    let w = mul_most a.job.width c.sample_bytes.result 4096 4 (omega arith) (omega arith) in
-    let m = mul_most a.job.rows (a.job.width * c.sample_bytes.result) 65535 16384 (omega arith) (omega arith) in
-    omega arith
 
 pub returns-then-there-need : goal.returns-then-there-need
 returns-then-there-need c =
