@@ -1,14 +1,9 @@
 -- What is reached by passes is what the definitions say: of a line, of the columns of a picture in one list, and so of a stage.
 -- By which idea: of values that are told apart only one is a greatest.
-use mathlib.Core.Path.{◌≡◌, refl, sym, ap, ◌∙◌, subst}
-use mathlib.Core.Bool.{true}
-use mathlib.Core.List.{List, [], ◌∷◌, map}
-use mathlib.Core.Logic.{inl, inr, ⊎_elim}
-use Prim.Native.Nat.{ℕ, zero, suc, ◌+◌, ◌-◌, ◌*◌, ◌/◌, ◌%◌, ◌≤◌, ◌<◌}
-use native.Mathlib.Nat.{mul-le-mul_right, mul-one, suc-mul, mod-lt, mul-zero, div-add-mod', div-lt_iff_lt-mul}
-use native.Mathlib.Omega.{arith}
-use lib.ListN.{length, get_or, length-take, length-drop, length-map, get_or-map}
-use lib.Seq.{slice, ext_get_or, get_or-take, get_or-drop, length-slice}
+use Rattle.std.proofs.Common.{◌≡◌, refl, sym, ap, ◌∙◌, subst, true, List, [], ◌∷◌, map, inl, inr, ⊎_elim, ℕ, zero, suc, ◌+◌, ◌-◌, ◌*◌, ◌/◌, ◌%◌, ◌≤◌, ◌<◌, mul-le-mul_right, mul-one, suc-mul, mod-lt, mul-zero, div-add-mod', div-lt_iff_lt-mul, arith, length, get_or, length-take, length-drop, ext_get_or, get_or-take, get_or-drop}
+use Rattle.std.proofs.lemmas.List.{length-map}
+use Rattle.std.proofs.Math.ListN.{get_or-map}
+use Rattle.std.proofs.Math.Seq.{slice, length-slice}
 use Rattle.morph.specs.Lists.{tabulate, Each, In}
 use Rattle.morph.specs.Order.{Order}
 use Rattle.morph.specs.Line.{best_at, filter_line}

@@ -1,18 +1,11 @@
 -- A pass in two parts, as the code makes it: the places that have a second, and those that stay.
-use mathlib.Core.Path.{◌≡◌, refl, sym, ap, ◌∙◌}
-use mathlib.Core.List.{List, ◌++◌, append-nil}
-use Prim.Native.Nat.{ℕ, suc, ◌+◌, ◌-◌, ◌≤◌, ◌<◌}
-use native.Mathlib.Nat.{mul-one, eq-or-lt_of_le}
-use native.Mathlib.Omega.{arith}
-use borrow.Author.Tests.{lt-ltb, le-ltb}
+use Rattle.std.proofs.Common.{◌≡◌, refl, sym, ap, ◌∙◌, List, ◌++◌, append-nil, ℕ, suc, ◌+◌, ◌-◌, ◌≤◌, ◌<◌, mul-one, arith, lt-ltb, le-ltb, length, get_or, take, drop, length-append, length-take, length-drop, drop_of_length-le, ext_get_or, get_or-append-add, get_or-drop, get_or-take, take_at, drop_at, take_all, ⊎_elim}
+use Rattle.std.proofs.Math.ListN.{get_or-append}
 use borrow.Rule.Slice.PartMut.{put_mid}
-use lib.ListN.{length, get_or, take, drop, set, length-set, length-append, length-take, length-drop, drop_of_length-le, get_or-append}
-use lib.Seq.{get_or-set_same, get_or-set_other, ext_get_or, get_or-append-add, get_or-drop, get_or-take, take_at, drop_at, take_all}
 use Rattle.morph.specs.Lists.{tabulate}
 use Rattle.morph.proofs.Lists.{length_tabulate, get_d_tabulate}
 use Rattle.passes.specs.Inner.{pairs, ahead_at, ahead_by, Runs, Back}
 use Rattle.passes.proofs.Reach.{below_or}
-use mathlib.Core.Logic.{⊎_elim}
 
 -- a place of two lists in a row
 pub get_d_right : {A : Type 0} (l m : List A) (i k : ℕ) (d : A) → length l ≡ k → k ≤ i → get_or (l ++ m) i d ≡ get_or m (i - k) d
@@ -62,33 +55,6 @@ module _ {A : Type 0} (d : A) (pick : A → A → A) where
     pub within : i ≤ length ys
     pub first : 0 < i → get_or l 0 d ≡ get_or ys 0 d
     pub next : (k : ℕ) → 0 < k → k < i → get_or l k d ≡ pick (get_or l (k - 1) d) (get_or ys k d)
-
-  -- where there is no place, and at the first
-  pub runs_none : (ys l : List A) → length l ≡ length ys → length ys ≡ 0 → Runs d pick ys l
-  runs_none ys l n e = record { long = n; first = λ h. absurd (omega arith); next = λ k h m. absurd (omega arith) }
-
-  pub runs_start : (ys l : List A) (v : A) → length l ≡ length ys → 0 < length ys → v ≡ get_or ys 0 d → Running 1 ys (set l 0 v)
-  runs_start ys l v n h e = record {
-    long = length-set l 0 v ∙ n;
-    within = h;
-    first = λ _. get_or-set_same l 0 v d (rw n h) ∙ e;
-    next = λ k a b. absurd (omega arith);
-  }
-
-  module _ (i : ℕ) (ys l : List A) (r : Running i ys l) where
-    pub runs_next : 0 < i → i < length ys → (v : A) → v ≡ pick (get_or l (i - 1) d) (get_or ys i d) → Running (i + 1) ys (set l i v)
-    runs_next a h v e = record {
-      long = length-set l i v ∙ r.long;
-      within = omega arith;
-      first = λ _. get_or-set_other l i 0 v d (λ (z : 0 ≡ i). omega arith) ∙ r.first a;
-      next = λ k b c. ⊎_elim
-          (λ (q : k ≡ i). rw q (get_or-set_same l i v d (omega (arith, r.long)) ∙ e ∙ ap (λ w. pick w (get_or ys i d)) (sym (get_or-set_other l i (i - 1) v d (λ (z : i - 1 ≡ i). omega arith)))))
-          (λ (q : k < i). get_or-set_other l i k v d (λ (z : k ≡ i). omega arith) ∙ r.next k b q ∙ ap (λ w. pick w (get_or ys k d)) (sym (get_or-set_other l i (k - 1) v d (λ (z : k - 1 ≡ i). omega arith))))
-          (eq-or-lt_of_le (omega arith));
-    }
-
-    pub runs_end : 0 < i → length ys ≤ i → Runs d pick ys l
-    runs_end a h = record { long = r.long; first = λ _. r.first a; next = λ k b c. r.next k b (omega arith) }
 
 module _ {A : Type 0} (d : A) (pick : A → A → A) (s : ℕ) (xs p : List A) (e : ℕ) (h : e ≡ length xs - (length xs - s)) (f : Runs d pick (take e xs) p) where
   front_long : length p ≡ e

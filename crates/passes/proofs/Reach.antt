@@ -1,15 +1,6 @@
 -- Passes by doubling reach as far as their steps add up to, over any order.
 -- By which idea: a place has the greatest of two windows of one list, which touch or overlap because a step is at most one longer than what is reached.
-use mathlib.Core.Path.{◌≡◌, refl, sym, ◌∙◌, subst}
-use mathlib.Core.Bool.{Bool, true, false, cond}
-use mathlib.Core.List.{List, [], ◌∷◌}
-use mathlib.Core.Logic.{◌⊎◌, inl, inr, ⊎_elim}
-use Prim.Native.Nat.{ℕ, zero, suc, ◌+◌, ◌-◌, ◌*◌, ◌≤◌, ◌<◌, min}
-use native.Mathlib.Nat.{mul-le-mul_right, zero-mul, mul-zero, one-mul, suc-mul, add-zero, mul-one}
-use native.Mathlib.Omega.{arith}
-use borrow.Author.Tests.{ltb-true, ltb-false, leb-true, leb-false}
-use lib.Dec.{ltb, leb}
-use lib.ListN.{length, get_or}
+use Rattle.std.proofs.Common.{◌≡◌, refl, sym, ◌∙◌, subst, Bool, true, false, cond, List, [], ◌∷◌, ◌⊎◌, inl, inr, ⊎_elim, ℕ, zero, suc, ◌+◌, ◌-◌, ◌*◌, ◌≤◌, ◌<◌, min, mul-le-mul_right, zero-mul, mul-zero, one-mul, suc-mul, add-zero, mul-one, arith, ltb-true, ltb-false, leb-true, leb-false, ltb, leb, length, get_or}
 use Rattle.morph.specs.Lists.{Each}
 use Rattle.morph.specs.Order.{Order}
 use Rattle.morph.proofs.Lists.{split, length_tabulate, get_d_tabulate, each_get_d}

@@ -1,13 +1,8 @@
 -- Rows of a picture in one list, filtered one after another in place.
-use mathlib.Core.Path.{◌≡◌, refl, sym, ap, ◌∙◌}
-use mathlib.Core.List.{List, [], ◌∷◌, ◌++◌, flatten, append-nil, append_assoc}
-use mathlib.Core.Logic.{⊎_elim}
-use Prim.Native.Nat.{ℕ, zero, suc, ◌+◌, ◌-◌, ◌*◌, ◌≤◌, ◌<◌}
-use native.Mathlib.Nat.{zero-add, zero-mul, suc-add, mul-le-mul_right, suc-mul, eq-or-lt_of_le}
-use native.Mathlib.Omega.{arith}
+use Rattle.std.proofs.Common.{◌≡◌, refl, sym, ap, ◌∙◌, List, [], ◌∷◌, ◌++◌, append-nil, append_assoc, ⊎_elim, ℕ, zero, suc, ◌+◌, ◌-◌, ◌*◌, ◌≤◌, ◌<◌, zero-add, zero-mul, suc-add, mul-le-mul_right, suc-mul, eq-or-lt_of_le, arith, length, take, drop, length-append, length-drop, take-take, drop-drop, take_at, drop_at, length-take-le, take-add, take_all}
+use Rattle.std.proofs.Math.Seq.{slice, take-nil, drop-nil}
 use borrow.Rule.Slice.PartMut.{put_mid, post_of, take_put, drop_put, same_len_mid}
-use lib.ListN.{length, take, drop, length-append, length-drop}
-use lib.Seq.{slice, take-nil, drop-nil, take-take, drop-drop, take_at, drop_at, length-take-le, take-add, take_all}
+use mathlib.Core.List.{flatten}
 use Rattle.laws.specs.Laws.{Told}
 use Rattle.morph.specs.declared.Kind.{Kind}
 use Rattle.morph.specs.declared.Kind.TheVariants.{Erosion, Dilation}
@@ -17,7 +12,6 @@ use Rattle.morph.specs.Order.{Order, order_of}
 use Rattle.morph.specs.Line.{filter_line}
 use Rattle.morph.proofs.Line.{length_line}
 use Rattle.passes.specs.Flat.{flat_row, flat_rows, UsedUpTo}
-use Rattle.passes.specs.Inner.{Crossed}
 use Rattle.passes.proofs.Flat.{row_length}
 
 -- values that are told apart are so in the order held round
@@ -57,13 +51,7 @@ pub record Crossing {A : Type 0} (O : Order A) (W H lo hi y : ℕ) (xs zs : List
   pub left : (k : ℕ) → y ≤ k → k < H → flat_row W zs k ≡ flat_row W xs k
 
 module _ {A : Type 0} (O : Order A) (W H B F : ℕ) (xs : List A) where
-  pub cross_start : length xs ≡ H * W → Crossing O W H B F 0 xs xs
-  cross_start n = record { whole = n; long = refl; within = omega arith; done = λ k h. absurd (omega arith); left = λ k h l. refl }
-
   module _ (y : ℕ) (zs : List A) (c : Crossing O W H B F y xs zs) where
-    pub cross_end : H ≤ y → Crossed O W H B F xs zs
-    cross_end h = record { long = c.long; rows = λ k l. c.done k (omega arith) }
-
     module _ (h : y < H) where
       pub row_within : y * W + W ≤ length zs
       row_within = omega (arith, mul-le-mul_right {m = suc y} {n = H} W h, suc-mul y W, c.long, c.whole)

@@ -1,14 +1,6 @@
 -- The front takes the better of two, and the end is copied.
-use native.Mathlib.Omega.{arith}
-use lib.ListN.{length-take}
 use Rattle.passes.proofs.Pass.{ahead_made}
 use Rattle.passes.proofs.ahead.Goals as goal
-
-pub slice_bounds-pair-end-2 : goal.slice_bounds-pair-end-2
-slice_bounds-pair-end-2 g c = rw length-take (omega arith)
-
-pub pair-requires : goal.pair-requires
-pair-requires g c = rw length-take (omega arith)
 
 pub returns : goal.returns
 returns g c =

@@ -1,5 +1,5 @@
 -- What the slice that the flag names has reached is the line's answer, and it is copied if it is in the other.
-use mathlib.Core.Path.{◌∙◌}
+use Rattle.std.proofs.Common.{◌∙◌}
 use Rattle.morph.specs.Order.{order_of}
 use Rattle.passes.proofs.Flat.{line_made}
 use Rattle.passes.proofs.Rows.{told_of}

@@ -1,15 +1,8 @@
 -- The slice that the flag names has reached r ahead.
-use mathlib.Core.Path.{◌≡◌, refl, sym, ◌∙◌}
-use native.Mathlib.Omega.{arith}
+use Rattle.std.proofs.Common.{◌≡◌, ◌∙◌, arith}
 use Rattle.morph.specs.Order.{order_of}
-use Rattle.passes.proofs.Reach.{reach_start, line_ahead_law}
+use Rattle.passes.proofs.Reach.{line_ahead_law}
 use Rattle.passes.proofs.line_ahead.Goals as goal
-
-pub loop-r-init : goal.loop-r-init
-loop-r-init g c = (refl, sym c.requires.0, omega arith, reach_start _ _ _ (g.met.S.Choice.picks c.args.kind) 1 _ c.requires.2)
-
-pub turn_ahead-requires : goal.turn_ahead-requires
-turn_ahead-requires g c = let i = c.loop-r.invariant in i.0 ∙ sym i.1
 
 pub loop-r-preserved : goal.loop-r-preserved
 loop-r-preserved g c =
@@ -21,12 +14,6 @@ loop-r-preserved g c =
       omega (arith, s.ensures),
       line_ahead_law (order_of start.args.kind g.S.Sample.samples.order) _ _ (g.met.S.Choice.picks start.args.kind) _ start.requires.2 l.r s.result start.args.far _ _ s.ensures l.invariant.3 c.turn_ahead.ensures,
     )
-
-pub shape_of-a : goal.shape_of-a
-shape_of-a g c = c.loop-r.invariant.0
-
-pub shape_of-t : goal.shape_of-t
-shape_of-t g c = c.loop-r.invariant.1 ∙ c.requires.0
 
 pub returns : goal.returns
 returns g c = let l = c.loop-r in let e : l.r ≡ c.args.far = omega arith in rw (← e) l.invariant.3

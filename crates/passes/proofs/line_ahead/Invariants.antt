@@ -1,7 +1,5 @@
 -- The slice that the flag names has reached r ahead.
-use mathlib.Core.Path.{◌≡◌}
-use Prim.Native.Nat.{◌-◌, ◌≤◌}
-use lib.ListN.{length}
+use Rattle.std.proofs.Common.{◌≡◌, ◌-◌, ◌≤◌, length}
 use Rattle.morph.specs.Order.{order_of}
 use Rattle.passes.specs.Inner.{held, Reached}
 use Rattle.passes.proofs.line_ahead.Given as goal

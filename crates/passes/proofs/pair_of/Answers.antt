@@ -1,12 +1,8 @@
 -- The places so far hold the better of the two, and those from here on are as they were.
-use mathlib.Core.Path.{refl, sym, ◌∙◌}
+use Rattle.std.proofs.Common.{refl, sym, ◌∙◌, ◌+◌, ◌<◌, arith, rules, length}
 use Rattle.std.proofs.lemmas.List.{get_or_read_under}
-use Prim.Native.Nat.{◌+◌, ◌<◌}
-use native.Mathlib.Omega.{arith}
-use borrow.Author.Rules.{rules}
-use lib.ListN.{length}
 use Rattle.morph.proofs.Lists.{length_tabulate, get_d_tabulate}
-use Rattle.sample.proofs.Rows.{fill_start, fill_next, fill_end}
+use Rattle.sample.proofs.Rows.{fill_start, fill_next}
 use Rattle.passes.proofs.pair_of.Goals as goal
 
 pub loop-i-init : goal.loop-i-init
@@ -22,9 +18,3 @@ loop-i-preserved g c =
     let here = get_or_read_under row l.i _ _ blank c.index-row-i.is (omega arith) refl in
     let there = get_or_read_under row (l.i + c.args.s) _ _ blank c.index-row-i-in-loop-i.is (omega arith) refl in
     (fill_next _ _ l.out l.i l.invariant.0 blank (rw length_tabulate h) _ ((rw (here, there, c.KIND.ensures) at c.better.ensures) ∙ sym (get_d_tabulate (length out₀) _ l.i blank h)), l.invariant.1)
-
-pub shape_of-out : goal.shape_of-out
-shape_of-out g c = c.loop-i.invariant.0.kept
-
-pub returns : goal.returns
-returns g c = let l = c.loop-i in fill_end _ _ l.out l.i l.invariant.0 (rw length_tabulate (omega arith))

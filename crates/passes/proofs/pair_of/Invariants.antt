@@ -1,6 +1,5 @@
 -- The places so far hold the better of the two, and those from here on are as they were.
-use Prim.Native.Nat.{◌-◌, ◌≤◌}
-use lib.ListN.{length}
+use Rattle.std.proofs.Common.{◌-◌, ◌≤◌, length}
 use Rattle.sample.proofs.Rows.{Filling}
 use Rattle.passes.specs.Inner.{pairs}
 use Rattle.passes.proofs.pair_of.Given as goal

@@ -1,7 +1,5 @@
 -- The places so far are done.
-use mathlib.Core.Path.{◌≡◌}
-use Prim.Native.Nat.{◌<◌}
-use lib.ListN.{length}
+use Rattle.std.proofs.Common.{◌≡◌, ◌<◌, length}
 use Rattle.passes.proofs.Pass.{Running}
 use Rattle.passes.proofs.running.Given as goal
 
