@@ -6,10 +6,14 @@ use native.Mathlib.Nat.{mul-le-mul_right}
 use native.Mathlib.Omega.{arith}
 use borrow.Author.Tests.{eq-eqb, ne_eqb}
 use lib.ListN.{get_or, drop}
-use Rattle.job_read.specs.declared.JobRead.{JobRead}
+use Rattle.std.specs.Prelude.{Ok, Err}
+use Rattle.morph.specs.declared.refusal.Refusal.{Refusal}
+use Rattle.morph.proofs.Exits.{refused_some}
+use Rattle.job_read.specs.declared.Job.{Job}
+use Rattle.job_read.specs.Inner.{read_as}
 use Rattle.job_read.specs.Layout.{row_bytes, head_begins, job_from}
 use Rattle.job_read.specs.Job.{plan_section_number, head_section_number, job_answered}
-use Rattle.job_read.proofs.Sections.{head_section_there, head_there}
+use Rattle.job_read.proofs.Sections.{head_section_there, head_there, read_says}
 use Rattle.morph.proofs.Numbers.{first_zero}
 use Rattle.answer.specs.Answer.{cells_number, opening_number, room_of}
 
@@ -26,18 +30,17 @@ head_few bytes e =
     let h = head_there (drop at bytes) (head_section_there bytes at z).1 in
     (h.width, h.rows)
 
-module _ (bytes : List ℕ) (r : JobRead) (e : r ≡ job_answered (opening_number bytes) (job_from bytes)) where
-  pub room_refused : (r.number ≡ 0 → ⊥) → 2 ≡ room_of bytes
+-- the room, by the head's number
+pub room_refused : (bytes : List ℕ) (why : Refusal) → read_as (Err why) ≡ job_answered (opening_number bytes) (job_from bytes) → 2 ≡ room_of bytes
+unfolding room_of
+room_refused bytes why e = rw (ne_eqb (opening_number bytes) 0 (λ z. refused_some why (ap (λ r. r.number) e ∙ z)))
+
+module _ (bytes : List ℕ) {job : Job} (e : read_as (Ok job) ≡ job_answered (opening_number bytes) (job_from bytes)) where
+  pub room_full : {n : ℕ} → n ≡ 6 + job.rows * (1 + row_bytes job) + 2 → n ≡ room_of bytes
   unfolding room_of
-  room_refused h = rw (ne_eqb (opening_number bytes) 0 (λ z. h (ap (λ r. r.number) e ∙ z)))
+  room_full k =
+      let (z, o) = read_says (job_from bytes) e in
+      rw (eq-eqb (opening_number bytes) 0 (sym z)) (k ∙ ap (λ (j : Job). 6 + j.rows * (1 + row_bytes j) + 2) o)
 
-  pub opened : r.number ≡ 0 → r.job ≡ job_from bytes
-  opened h = ap (λ r. r.job) e ∙ rw (eq-eqb (opening_number bytes) 0 (sym (ap (λ r. r.number) e) ∙ h))
-
-  pub room_full : r.number ≡ 0 → (n : ℕ) → n ≡ 6 + r.job.rows * (1 + row_bytes r.job) + 2 → n ≡ room_of bytes
-  unfolding room_of
-  room_full h n k =
-      rw (eq-eqb (opening_number bytes) 0 (sym (ap (λ r. r.number) e) ∙ h)) (k ∙ ap (λ job. 6 + job.rows * (1 + row_bytes job) + 2) (opened h))
-
-  pub opened_few : r.number ≡ 0 → (r.job.width ≤ 4096) × (r.job.rows ≤ 65535)
-  opened_few h = rw (opened h) (head_few bytes (sym (ap (λ r. r.number) e) ∙ h))
+  pub opened_few : (job.width ≤ 4096) × (job.rows ≤ 65535)
+  opened_few = let (z, o) = read_says (job_from bytes) e in rw o (head_few bytes (sym z))

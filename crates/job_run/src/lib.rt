@@ -8,9 +8,9 @@ ghost use Rattle.job_run.specs.Run.{RunsJob};
 
 use job_read::Job;
 
-// What a run comes to: the number at the answer's end and how many bytes the answer has; or 6 and none, where there is too little room.
+// What a run comes to: the number at the answer's end and how many bytes the answer has; or 6 and none, where there is too little room. C reads it (`RunsJob`).
 #[repr(C)]
-#[derive(Clone, Copy)]
+#[derive(Clone, Copy, Debug, PartialEq, Eq)]
 pub struct JobRun {
     pub number: u8,
     pub written: usize,
@@ -31,11 +31,10 @@ fn full_room(job: Job) -> usize
 fn room(job: &[u8]) -> usize
     ensures { result ≡ room_of job.now }
 {
-    let opened = turn_head::open(job);
-    if opened.number != 0 {
-        return 2;
+    match turn_head::open(job) {
+        Ok(opened) => full_room(opened),
+        Err(_) => 2,
     }
-    full_room(opened.job)
 }
 
 // ---- memory
@@ -108,6 +107,6 @@ pub fn run(job: &[u8], out: &mut [u8]) -> JobRun
     let written = answer_to(job, out);
     JobRun {
         number: out[written - 1],
-        written: written,
+        written,
     }
 }
