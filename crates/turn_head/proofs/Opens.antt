@@ -1,24 +1,23 @@
 -- The head, group by group: the number of each by its tests, and how much of it has to be at hand. By which idea: the first group that is refused gives the number.
 use mathlib.Core.Path.{◌≡◌, refl, sym, ap, ◌∙◌}
-use mathlib.Core.Bool.{true, false}
 use mathlib.Core.List.{List, [], ◌∷◌}
-use Prim.Native.Nat.{ℕ, ◌≤◌, ◌<◌}
+use Prim.Native.Nat.{ℕ, ◌*◌, ◌≤◌, ◌<◌}
 use native.Mathlib.Omega.{arith}
 use borrow.Author.Tests.{lt-ltb, le-ltb, eq-eqb, ne_eqb}
-use lib.ListN.{length, get_or}
+use lib.ListN.{length, get_or, drop}
 use Rattle.morph.specs.Numbers.{first_of}
-use Rattle.morph.proofs.Numbers.{first_one, first_skip, skip, found}
-use Rattle.plan_record.specs.Plan.{count_number, cells_needed}
+use Rattle.morph.proofs.Numbers.{first_one, first_skip, skip}
+use Rattle.plan_record.specs.Plan.{count_number, cells_needed, stage_out_of, stages_from}
+use Rattle.plan_record.proofs.Named.{counted}
+use Rattle.morph.proofs.Lists.{length_tabulate}
 use Rattle.job_read.specs.declared.Job.{Job}
 use Rattle.job_read.specs.declared.JobRead.{JobRead}
 use Rattle.job_read.specs.Layout.{head_begins, pixels_begin, job_from}
 use Rattle.job_read.specs.Job.{missing, plan_section_number, head_section_number, no_job, job_answered}
-use Rattle.job_read.proofs.Sections.{section_empty, section_count}
+use Rattle.job_read.specs.Inner.{front_number}
+use Rattle.job_read.proofs.Sections.{first_front, plan_there, front_there, front_sized, section_empty, section_count}
 use Rattle.answer.specs.Answer.{cells_number, opening_number}
 use Rattle.answer.specs.Inner.{head_wants_of}
-
-pub apart : false ≡ true → ⊥
-apart z = let y : ◌≡◌ {A = ℕ} 0 1 = cc in omega arith
 
 module _ (bytes : List ℕ) where
   abbrev head_no : ℕ
@@ -29,15 +28,20 @@ module _ (bytes : List ℕ) where
 
   -- ---- the number
 
-  pub opening_plan : {n : ℕ} → n ≡ plan_section_number bytes → (n ≡ 0 → ⊥) → n ≡ opening_number bytes
-  unfolding opening_number
-  opening_plan e h = found (plan_section_number bytes) (head_no ∷ cells_no ∷ []) e h
+  pub opening_front : {n : ℕ} → n ≡ front_number bytes → (n ≡ 0 → ⊥) → n ≡ opening_number bytes
+  unfolding opening_number front_number
+  opening_front e h = e ∙ sym (first_front (plan_section_number bytes ∷ head_no ∷ []) (cells_no ∷ []) (λ z. h (e ∙ z)))
+
+  -- the plan is of few stages and the rows are narrow
+  pub front_few : front_number bytes ≡ 0 → ((job_from bytes).plan.count ≤ 16) × ((job_from bytes).width ≤ 4096)
+  unfolding job_from stages_from
+  front_few z =
+      let n = counted (get_or bytes 0 0) (plan_there bytes (front_there bytes z).0).few in
+      let l = length_tabulate (get_or bytes 0 0) (λ i. stage_out_of (drop 1 bytes) (i * 5)) in
+      let (_, w, _) = front_sized bytes z in
+      (omega arith, w)
 
   module _ (p : plan_section_number bytes ≡ 0) where
-    pub opening_head : {n : ℕ} → n ≡ head_no → (n ≡ 0 → ⊥) → n ≡ opening_number bytes
-    unfolding opening_number
-    opening_head e h = skip (plan_section_number bytes) (head_no ∷ cells_no ∷ []) p (found head_no (cells_no ∷ []) e h)
-
     module _ (q : head_no ≡ 0) {job : Job} (e : job ≡ job_from bytes) where
       last : {n : ℕ} → n ≡ cells_number job.plan job.width → n ≡ opening_number bytes
       unfolding opening_number

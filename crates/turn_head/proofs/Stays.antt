@@ -2,15 +2,11 @@
 use mathlib.Core.Path.{◌≡◌, refl, sym, ap, ◌∙◌, subst}
 use mathlib.Core.Logic.{◌⊎◌, ⊎_elim}
 use mathlib.Core.List.{List, [], ◌∷◌, ◌++◌, append-nil}
-use Prim.Native.Nat.{ℕ, ◌+◌, ◌-◌, ◌≤◌, ◌<◌}
+use Prim.Native.Nat.{ℕ, ◌≤◌, ◌<◌}
 use native.Mathlib.Omega.{arith}
-use borrow.Author.Tests.{eq-eqb}
 use lib.ListN.{length, take, length-take}
 use Rattle.picture_state.specs.declared.State.{State}
 use Rattle.picture_start.specs.Start.{state_of_none}
-use Rattle.job_read.specs.declared.Job.{Job}
-use Rattle.job_read.specs.declared.JobRead.{JobRead}
-use Rattle.job_read.specs.Job.{job_answered}
 use Rattle.answer.specs.Answer.{opening_number}
 use Rattle.answer.specs.Inner.{head_wants_of}
 use Rattle.answer.proofs.Opening.{head_settled, answer_refused}
@@ -19,11 +15,6 @@ use Rattle.turns.specs.declared.Machine.{Machine}
 use Rattle.turns.specs.declared.Turned.{Turned}
 use Rattle.turns.specs.Inner.{machine_memory, Means, left_of, EndsWith}
 use Rattle.turn_head.specs.Inner.{HeadTurns}
-
--- ---- what was opened
-
-pub opened_job : (number : ℕ) (job : Job) {r : JobRead} → r ≡ job_answered number job → r.number ≡ 0 → r.job ≡ job
-opened_job number job e z = let f = eq-eqb number 0 (sym (ap (λ r. r.number) e) ∙ z) in ap (λ r. r.job) e ∙ rw f
 
 -- ---- the turns
 

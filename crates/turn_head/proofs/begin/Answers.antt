@@ -4,8 +4,8 @@ use Rattle.turn_head.proofs.First.{fits, at_there, started, first_small, begins}
 use borrow.Author.Rules.{rules}
 use Rattle.turn_head.proofs.begin.Goals as goal
 
-pub overflow_sub-end : goal.overflow_sub-end
-overflow_sub-end c =
+pub overflow_sub-job : goal.overflow_sub-job
+overflow_sub-job c =
     (at_there c.args.bytes.now c.requires.0 c.requires.1).0
 
 pub put_head-requires : goal.put_head-requires

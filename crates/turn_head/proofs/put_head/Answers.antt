@@ -1,22 +1,14 @@
 -- Six bytes are stored.
-use Prim.Native.Nat.{◌<◌}
+use mathlib.Core.Path.{◌≡◌, ap, ◌∙◌}
+use Prim.Native.Nat.{ℕ, ◌+◌, ◌-◌}
 use native.Mathlib.Omega.{arith}
-use lib.ListN.{length}
-use Rattle.turn_head.proofs.Frame.{six_set}
-use borrow.Author.Rules.{rules}
+use lib.ListN.{length, take, drop, length-take, length-drop}
+use Rattle.turn_head.proofs.Frame.{six_put}
 use Rattle.turn_head.proofs.put_head.Goals as goal
 
-pub bounds-frame-1 : goal.bounds-frame-1
-bounds-frame-1 c = let h : 1 < length c.args.frame.now = omega arith in search rules
-
-pub bounds-frame-2 : goal.bounds-frame-2
-bounds-frame-2 c = let h : 2 < length c.args.frame.now = omega arith in search rules
-
-pub bounds-frame-3 : goal.bounds-frame-3
-bounds-frame-3 c = let h : 3 < length c.args.frame.now = omega arith in search rules
-
-pub bounds-frame-4 : goal.bounds-frame-4
-bounds-frame-4 c = let h : 4 < length c.args.frame.now = omega arith in search rules
-
 pub returns : goal.returns
-returns c = six_set c.args.frame.now c.args.bytes.now c.args.from c.requires.1 c.requires.0
+returns c =
+    let a = c.args in
+    let e : a.from + 5 - a.from ≡ 5 = omega arith in
+    let l : length (take 5 (drop a.from a.bytes.now)) ≡ 5 = simp (length-take, length-drop) (omega arith) in
+    six_put a.frame.now c.copy_from_slice.new.self (take 5 (drop a.from a.bytes.now)) c.requires.1 (c.copy_from_slice.ensures.after ∙ ap (λ (k : ℕ). take k (drop a.from a.bytes.now)) e) l

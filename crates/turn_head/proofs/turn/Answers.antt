@@ -4,10 +4,11 @@ use mathlib.Core.Logic.{◌⊎◌, ⊎_elim, inl, inr}
 use Prim.Native.Nat.{◌≤◌, ◌<◌}
 use native.Mathlib.Omega.{arith}
 use lib.ListN.{length}
+use Rattle.morph.proofs.Exits.{refused_some}
 use Rattle.job_read.specs.Layout.{job_from}
-use Rattle.answer.specs.Answer.{opening_number}
+use Rattle.job_read.proofs.Sections.{read_says}
 use Rattle.answer.specs.Inner.{head_wants_of}
-use Rattle.turn_head.proofs.Stays.{opened_job, waits, refuses}
+use Rattle.turn_head.proofs.Stays.{waits, refuses}
 use Rattle.turn_head.proofs.turn.Goals as goal
 use Rattle.turn_head.proofs.turn.Goals.{Else-is_short}
 
@@ -22,16 +23,14 @@ returns-then-is_short c =
     let (a, b) = c.is_short.ensures.0 c.if-is_short.true in
     waits c.args.machine c.args.bytes.now c.args.starts.now c.args.lengths.now c.args.frame.now c.requires.0 c.head_wants-wanted.result c.at_head.result c.at_head.ensures (omega (arith, a, b)) c.head_wants-wanted.ensures.1
 
-pub returns-then-opened-ne0 : goal.returns-then-opened-ne0
-returns-then-opened-ne0 c =
-    refuses c.args.machine c.args.bytes.now c.args.starts.now c.args.lengths.now _ c.requires.0 (stands_at (goal.at.returns-then-opened-ne0 c).Else-is_short) c.args.machine.state c.ended.result (ap (λ r. r.number) c.open-opened.ensures) c.if-opened-ne0.true c.ended.ensures
+pub returns-in-Err : goal.returns-in-Err
+returns-in-Err c =
+    refuses c.args.machine c.args.bytes.now c.args.starts.now c.args.lengths.now _ c.requires.0 (stands_at (goal.at.returns-in-Err c).Else-is_short) c.args.machine.state c.ended.result (c.number.ensures.0 ∙ ap (λ r. r.number) c.in-Err.ensures) (λ z. refused_some c.in-Err.refusal (sym c.number.ensures.0 ∙ z)) c.ended.ensures
 
 pub begin-requires : goal.begin-requires
 begin-requires c =
-    let bytes = c.args.bytes.now in
-    let e = c.open-opened.ensures in
-    (sym (ap (λ r. r.number) e) ∙ c.if-opened-ne0.false, opened_job (opening_number bytes) (job_from bytes) e c.if-opened-ne0.false, omega arith, c.requires.2, c.requires.3)
+    let (z, e) = read_says (job_from c.args.bytes.now) c.in-Ok.ensures in
+    (sym z, e, omega arith, c.requires.2, c.requires.3)
 
-pub returns : goal.returns
-returns c =
-    c.begin.ensures c.args.machine c.requires.0
+pub returns-in-Ok : goal.returns-in-Ok
+returns-in-Ok c = c.begin.ensures c.args.machine c.requires.0
