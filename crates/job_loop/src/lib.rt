@@ -29,7 +29,7 @@ fn put_turn(
         machine, bytes, frame, row, came, greys, rates, positions, starts, lengths,
     );
     let put = turned.put;
-    sample::grey::copy(&frame[..put], &mut out[..put]);
+    out[..put].copy_from_slice(&frame[..put]);
     turned
 }
 

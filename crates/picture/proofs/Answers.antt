@@ -14,6 +14,7 @@ of_number n =
     cond (eqb n 1) StageCount (cond (eqb n 2) StageKind (cond (eqb n 3) Extent (cond (eqb n 4) Size (cond (eqb n 5) SampleKind (cond (eqb n 6) Memory (cond (eqb n 7) RowLength (cond (eqb n 8) NotFinite (cond (eqb n 9) AllRead (cond (eqb n 10) NoDrain (cond (eqb n 11) NotThere (cond (eqb n 12) State (cond (eqb n 13) EndsEarly (cond (eqb n 14) BytesAfter (cond (eqb n 15) Cells (cond (eqb n 16) Negative (cond (eqb n 17) FilterOrder (cond (eqb n 20) OverOneStage (cond (eqb n 21) EmptyBand (LastNumber)))))))))))))))))))
 
 back : (r : Refusal) → of_number (refusal_number r) ≡ r
+unfolding of_number
 back StageCount = refl
 back StageKind = refl
 back Extent = refl

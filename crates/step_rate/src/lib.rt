@@ -2,7 +2,7 @@
 #![tactic(auto)]
 
 ghost use Rattle.std.specs.Prelude.{◌≡◌, ◌+◌, ◌*◌, ◌≤◌, ◌<◌, length};
-ghost use Rattle.memory.specs.Lent.{given, left};
+ghost use Rattle.memory.specs.Memory.{memory};
 ghost use Rattle.answer.specs.Answer.{rate_rows};
 ghost use Rattle.turns.specs.Inner.{Framed};
 ghost use Rattle.step_rate.specs.Inner.{FloatStep, InFrame};
@@ -15,16 +15,31 @@ fn step(
     bytes: &[u8],
     row: &mut [f32],
     came: &mut [f32],
-    lent: Lent<f32>,
+    values: &mut [f32],
+    positions: &mut [u8],
+    starts: &mut [u8],
+    lengths: &mut [u8],
 ) -> Stepped
     requires { (state.width ≤ 4096) × (length row.old ≡ state.width) × (state.step < state.rows → state.width * 4 ≤ length bytes.now) }
-    ensures { FloatStep state (given lent.entry) bytes.now came.old (left lent.exit) came.new result.answer result.state }
+    ensures { FloatStep state (memory values.old positions.old starts.old lengths.old) bytes.now came.old (memory values.new positions.new starts.new lengths.new) came.new result.answer result.state }
 {
     let size = state.width * 4;
     if state.step < state.rows {
         floats::take_in(&bytes[..size], row);
+        let lent = Lent {
+            values: &mut values[..],
+            positions: &mut positions[..],
+            starts: &mut starts[..],
+            lengths: &mut lengths[..],
+        };
         return picture::row(state, &row[..], came, lent);
     }
+    let lent = Lent {
+        values: &mut values[..],
+        positions: &mut positions[..],
+        starts: &mut starts[..],
+        lengths: &mut lengths[..],
+    };
     picture::drain(state, came, lent)
 }
 
@@ -53,13 +68,25 @@ pub fn take(
     frame: &mut [u8],
     row: &mut [f32],
     came: &mut [f32],
-    lent: Lent<f32>,
+    values: &mut [f32],
+    positions: &mut [u8],
+    starts: &mut [u8],
+    lengths: &mut [u8],
 ) -> Stepped
     requires { (state.width ≤ 4096) × (16385 ≤ length frame.old) × (4096 ≤ length row.old) × (4096 ≤ length came.old) × (state.step < state.rows → state.width * 4 ≤ length bytes.now) }
-    ensures { Framed rate_rows 1 state (given lent.entry) bytes.now (left lent.exit) frame.new result.answer result.state }
+    ensures { Framed rate_rows 1 state (memory values.old positions.old starts.old lengths.old) bytes.now (memory values.new positions.new starts.new lengths.new) frame.new result.answer result.state }
 {
     let width = state.width;
-    let stepped = step(state, bytes, &mut row[..width], &mut came[..width], lent);
+    let stepped = step(
+        state,
+        bytes,
+        &mut row[..width],
+        &mut came[..width],
+        values,
+        positions,
+        starts,
+        lengths,
+    );
     let end = 1 + width * 4;
     let answer = stepped.answer;
     give(answer, &came[..width], &mut frame[..end]);

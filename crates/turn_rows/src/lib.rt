@@ -6,7 +6,6 @@ ghost use Rattle.turns.specs.declared.Phase.TheVariants.{Rows};
 ghost use Rattle.morph.specs.Numbers.{given};
 ghost use Rattle.turns.specs.Inner.{machine_memory, row_size_of, Stands, Turns, FramedBoth};
 
-use memory::Lent;
 use picture_state::{State, Stepped};
 use turns::{Machine, Turned};
 
@@ -37,21 +36,11 @@ fn step(
     ensures { FramedBoth state (machine_memory greys.old rates.old positions.old starts.old lengths.old) bytes.now (machine_memory greys.new rates.new positions.new starts.new lengths.new) frame.new result.answer result.state }
 {
     if state.sample == 0 {
-        let lent = Lent {
-            values: greys,
-            positions: positions,
-            starts: starts,
-            lengths: lengths,
-        };
-        return step_grey::take(state, bytes, frame, lent);
+        return step_grey::take(state, bytes, frame, greys, positions, starts, lengths);
     }
-    let lent = Lent {
-        values: rates,
-        positions: positions,
-        starts: starts,
-        lengths: lengths,
-    };
-    step_rate::take(state, bytes, frame, row, came, lent)
+    step_rate::take(
+        state, bytes, frame, row, came, rates, positions, starts, lengths,
+    )
 }
 
 // A turn of a machine at the rows.
