@@ -11,7 +11,7 @@ ghost use Rattle.chain.specs.Inner.{Ready, Begins, Leaves, Fronted, PlanStep};
 use plan_record::Stage;
 use sample::Sample;
 
-// What the stages of a plan made of a step: the comparisons, and whether the last stage's row stands in the row's place.
+// What the stages of a plan made of a step: the comparisons, and whether the last stage's row stands in the row's place. No Option: where no row is due there are comparisons too.
 #[derive(Clone, Copy, Debug, PartialEq, Eq)]
 pub struct Ran {
     pub comparisons: usize,
@@ -61,8 +61,8 @@ fn run_front<S: Sample>(
         row,
     );
     Front {
-        comparisons: comparisons,
-        cells: cells,
+        comparisons,
+        cells,
         ahead: plan_record::below(stage),
     }
 }

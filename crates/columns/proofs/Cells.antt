@@ -1,16 +1,7 @@
 -- The cells of a column, as a part of the stage's that is lent and comes back. By which idea: the cells of one column end before those of a later one begin.
-use mathlib.Core.Path.{◌≡◌, sym, ap, ◌∙◌}
-use mathlib.Core.List.{List, [], ◌∷◌}
-use mathlib.Core.Logic.{◌≢◌, ◌⊎◌, inl, inr, ⊎_elim}
-use Prim.Native.Nat.{ℕ, zero, suc, ◌+◌, ◌-◌, ◌*◌, ◌≤◌, ◌<◌}
-use native.Mathlib.Nat.{zero-add, suc-add, suc-mul, mul-le-mul_right, eq-or-lt_of_le}
-use native.Mathlib.Numerals.{add-one}
-use native.Mathlib.Omega.{arith}
-use borrow.Author.Tests.{ltb-true, ltb-false}
+use Rattle.std.proofs.Common.{◌≡◌, sym, ap, ◌∙◌, List, [], ◌∷◌, ◌≢◌, ◌⊎◌, inl, inr, ⊎_elim, ℕ, zero, suc, ◌+◌, ◌-◌, ◌*◌, ◌≤◌, ◌<◌, zero-add, suc-add, suc-mul, mul-le-mul_right, eq-or-lt_of_le, add-one, arith, ltb-true, ltb-false, ltb, length, take, drop, get_or, take-take, drop-drop, take_at, drop_at, length-take-le, get_or-take, get_or-drop}
+use Rattle.std.proofs.Math.Seq.{slice, take-nil}
 use borrow.Rule.Slice.PartMut.{put_mid, take_put, drop_put}
-use lib.Dec.{ltb}
-use lib.ListN.{length, take, drop, get_or}
-use lib.Seq.{slice, take-take, take-nil, drop-drop, take_at, drop_at, length-take-le, get_or-take, get_or-drop}
 use Rattle.morph.proofs.Lists.{split}
 use Rattle.columns.specs.Inner.{Lent}
 use Rattle.memory.specs.Memory.{cells_at}

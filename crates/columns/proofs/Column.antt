@@ -1,14 +1,8 @@
 -- A step of one column, beside which the others stay, and what stands in a column; over any kind of samples.
-use mathlib.Core.Path.{◌≡◌, refl, sym, ap, ◌∙◌}
-use mathlib.Core.List.{List, [], ◌∷◌, map}
-use mathlib.Core.Logic.{◌≢◌}
-use Prim.Native.Nat.{ℕ, zero, suc, ◌+◌, ◌-◌, ◌*◌, ◌≤◌, ◌<◌}
-use native.Mathlib.Omega.{arith}
-use borrow.Author.Tests.{eqb-true, eqb-false}
+use Rattle.std.proofs.Common.{◌≡◌, refl, sym, ap, ◌∙◌, List, ◌≢◌, ℕ, ◌+◌, ◌-◌, ◌*◌, ◌≤◌, ◌<◌, arith, eqb-true, eqb, length, drop, get_or, set, length-set, length-drop, length-take-le, get_or-set_same, get_or-set_other}
+use Rattle.std.proofs.lemmas.Bool.{eqb-false}
+use Rattle.std.proofs.lemmas.List.{get_or-map}
 use borrow.Rule.Slice.PartMut.{put_mid, mid_of, same_len_mid}
-use lib.Dec.{eqb}
-use lib.ListN.{length, drop, get_or, set, length-set, length-drop}
-use lib.Seq.{length-take-le, get_or-set_same, get_or-set_other}
 use Rattle.morph.specs.declared.Kind.{Kind}
 use Rattle.morph.specs.Order.{Order}
 use Rattle.morph.specs.Line.{Entry, front}
@@ -26,10 +20,6 @@ use Rattle.columns.specs.Inner.{Lent, only, Moved, reads, front_at, EntryAt}
 use Rattle.memory.specs.Memory.{cells_at, column_at}
 use Rattle.columns.proofs.Cells.{column_in, cells_part, cells_place, Beside, put_here, put_beside}
 
--- there are as many columns as starts
-pub lent_width : (P W : ℕ) (ps ss ls : List ℕ) → Lent P W ps ss ls → Lent P (length ss) ps ss ls
-lent_width P W ps ss ls l = rw l.starts_long l
-
 -- ---- what stands in a column
 
 module _ {A : Type 0} (K : Samples A) (P x : ℕ) (vs : List A) (ps ss ls : List ℕ) where
@@ -45,11 +35,6 @@ module _ {A : Type 0} (K : Samples A) (P x : ℕ) (vs : List A) (ps ss ls : List
       (listed_front K.order.blank P (cells_at P x vs) (cells_at P x ps) O (get_or ss x 0) (get_or ls x 0) h (rw column_length at k)
       ∙ cells_place P x (get_or ss x 0) vs K.order.blank h)
 
-map_place : {A B : Type 0} (f : A → B) (l : List A) (k : ℕ) (b : B) (a : A) → k < length l → get_or (map f l) k b ≡ f (get_or l k a)
-map_place f [] k b a h = absurd (omega arith)
-map_place f (e ∷ l) zero b a h = refl
-map_place f (e ∷ l) (suc k) b a h = map_place f l k b a (omega arith)
-
 -- place k of a queue is a place of the ring
 pub entry_column : {A : Type 0} (K : Samples A) (P x : ℕ) (vs : List A) (ps ss : List ℕ) (start k at s : ℕ) (v : A) (p : ℕ)
     → start ≡ get_or ss x 0 → at ≡ wrap P (start + k) → at < P → v ≡ get_or vs (x * P + at) K.order.blank → p ≡ row_of s (get_or ps (x * P + at) 0)
@@ -58,7 +43,7 @@ unfolding column_at
 entry_column K P x vs ps ss start k at s v p e w h a b ls none i =
     let q = entries K.order.blank P (get_or ss x 0) (get_or ls x 0) (cells_at P x vs) (cells_at P x ps) in
     let d : Entry _ = record { value = K.order.blank; position = 0 } in
-    map_place (read_at s) q k none d (rw listed_length i)
+    get_or-map (read_at s) q k d none (rw listed_length i)
     ∙ ap (read_at s) (listed_at K.order.blank P (cells_at P x vs) (cells_at P x ps) (get_or ss x 0) (get_or ls x 0) k at d i (rw (← e, w)))
     ∙ rw (cells_place P x at vs K.order.blank h, cells_place P x at ps 0 h, a, b)
 

@@ -1,23 +1,14 @@
 -- The columns one after another: what has been done to the columns before x, and to none after it, grows by one. Over any kind of samples.
-use mathlib.Core.Path.{◌≡◌, refl, sym, ap, ◌∙◌}
-use mathlib.Core.Bool.{cond}
-use mathlib.Core.List.{List, []}
-use mathlib.Core.Logic.{◌≢◌}
-use Prim.Native.Nat.{ℕ, suc, ◌+◌, ◌*◌, ◌≤◌, ◌<◌}
-use native.Mathlib.Nat.{zero-mul}
-use native.Mathlib.Numerals.{add-one}
-use native.Mathlib.Omega.{arith}
-use borrow.Author.Tests.{ltb-true, ltb-false, lt-ltb, le-ltb, eqb-true, eqb-false, eq-eqb}
-use lib.Dec.{ltb, eqb}
-use lib.ListN.{length, get_or, set, length-set}
+use Rattle.std.proofs.Common.{◌≡◌, refl, sym, ap, ◌∙◌, cond, List, [], ◌≢◌, ℕ, suc, ◌+◌, ◌*◌, ◌≤◌, ◌<◌, zero-mul, add-one, arith, ltb-true, ltb-false, lt-ltb, le-ltb, eqb-true, eq-eqb, ltb, eqb, length, get_or, set, length-set}
+use Rattle.std.proofs.lemmas.Bool.{eqb-false}
 use Rattle.morph.specs.declared.Kind.{Kind}
 use Rattle.morph.specs.Lists.{tabulate, sum_to}
 use Rattle.morph.specs.Line.{Entry}
 use Rattle.morph.specs.Inner.{cells_roomed, step_cost}
 use Rattle.morph.proofs.Lists.{split, length_tabulate, get_d_tabulate}
 use Rattle.sample.specs.Samples.{Samples}
-use Rattle.sample.proofs.Rows.{Filling, fill_start, fill_next, fill_end}
-use Rattle.columns.specs.Inner.{Lent, only, Moved, RecordsMoved, reads, RowRead, front_at}
+use Rattle.sample.proofs.Rows.{Filling, fill_start, fill_next}
+use Rattle.columns.specs.Inner.{Lent, only, Moved, RecordsMoved, reads, front_at}
 use Rattle.memory.specs.Memory.{column_at}
 use Rattle.columns.proofs.Cells.{next_cells}
 
@@ -72,15 +63,6 @@ module _ {A : Type 0} (K : Samples A) (kind : Kind) (P t : ℕ) (row vs : List A
     pub counted : r ≡ sum_to x cost_at
     pub few : r ≤ x * 63
 
-  pub reading_first : Lent P (length row) ps ss ls → Reading vs ps ss ls 0 0 0
-  reading_first l = record {
-    within = omega arith;
-    at = sym (zero-mul P);
-    moved = moved_first K P (length row) reads_at vs ps ss ls l;
-    counted = refl;
-    few = omega arith;
-  }
-
   module _ (vs' : List A) (ps' ss' ls' : List ℕ) (r lo x : ℕ) (g : Reading vs' ps' ss' ls' r lo x) where
     pub reading_next : (v : A) (vs'' : List A) (ps'' ss'' ls'' : List ℕ) (more : ℕ) → x < length row → v ≡ value_at x
         → Moved K P (length ss') (only x (reads K kind P t v)) vs' ps' ss' ls' vs'' ps'' ss'' ls''
@@ -93,15 +75,6 @@ module _ {A : Type 0} (K : Samples A) (kind : Kind) (P t : ℕ) (row vs : List A
       few = omega (arith, g.few);
     }
 
-    pub reading_last : length row ≤ x → RowRead K kind P t row vs ps ss ls vs' ps' ss' ls' r
-    reading_last h =
-        let e : x ≡ length row = omega (arith, g.within) in
-        record {
-          moved = moved_last K P (length row) reads_at vs ps ss ls x vs' ps' ss' ls' g.moved h;
-          counted = rw e at g.counted;
-          few = rw e at g.few;
-        }
-
 -- ---- the columns age
 
 module _ {A : Type 0} (K : Samples A) (P t : ℕ) (ps ss ls : List ℕ) where
@@ -111,9 +84,6 @@ module _ {A : Type 0} (K : Samples A) (P t : ℕ) (ps ss ls : List ℕ) where
     pub at : lo ≡ x * P
     pub lent : Lent P (length ss) ps ss' ls'
     pub moved : RecordsMoved K P (length ss) (until x (λ _. cells_roomed P t)) ps ss ls ss' ls'
-
-  pub aging_first : Lent P (length ss) ps ss ls → Aging ss ls 0 0
-  aging_first l = record { within = omega arith; at = sym (zero-mul P); lent = l; moved = λ vs. moved_first K P (length ss) (λ _. cells_roomed P t) vs ps ss ls l }
 
   module _ (ss' ls' : List ℕ) (lo x : ℕ) (g : Aging ss' ls' lo x) where
     pub aging_next : (ss'' ls'' : List ℕ) → x < length ss → RecordsMoved K P (length ss') (only x (cells_roomed P t)) ps ss' ls' ss'' ls'' → Aging ss'' ls'' (lo + P) (x + 1)
@@ -157,6 +127,3 @@ module _ {A : Type 0} (K : Samples A) (P : ℕ) (vs : List A) (ss : List ℕ) (r
       at = next_cells P x lo g.at;
       filled = fill_next fronted row row' x g.filled K.order.blank (rw length_tabulate h) v (front_next v h e);
     }
-
-    pub fronting_last : length row ≤ x → row' ≡ fronted
-    fronting_last h = fill_end fronted row row' x g.filled (rw length_tabulate h)

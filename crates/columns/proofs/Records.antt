@@ -1,12 +1,6 @@
 -- The judging of the column records: the flag is that of the columns passed.
-use mathlib.Core.Path.{◌≡◌, refl}
-use mathlib.Core.Bool.{Bool, true, false, ◌&&◌, and-true}
-use mathlib.Core.List.{List, [], ◌∷◌}
-use Prim.Native.Nat.{ℕ, ◌+◌, ◌<◌}
-use native.Mathlib.Numerals.{add-one}
-use lib.Dec.{ltb, leb}
-use lib.ListN.{length, take, get_or}
-use lib.Seq.{take-suc}
+use Rattle.std.proofs.Common.{◌≡◌, refl, Bool, true, false, ◌&&◌, List, [], ◌∷◌, ℕ, ◌+◌, ◌<◌, add-one, ltb, leb, length, take, get_or, take-suc}
+use Rattle.std.proofs.Math.Bool.{and-true}
 use Rattle.morph.specs.Lists.{all}
 use Rattle.morph.proofs.Lists.{all_append}
 use Rattle.memory.specs.Memory.{sound_records}

@@ -1,5 +1,6 @@
 // The columns of one stage in lent memory: every column is a queue of its own, and a step moves them all on.
 // The slices are the stage's part and no more: with P places a column, column x has the P cells from x * P on, and record x, a start and a length.
+// They come one by one, here and in `stage` and `chain`, and not as one `memory::Lent`: a part of them is lent on at each call, so a struct would be taken apart and made again each time.
 // A column's step costs the same whatever the window; the cells of a column lie together, and a step goes over them from left to right.
 #![tactic(auto)]
 
@@ -14,7 +15,7 @@ use morph::Kind;
 use queue::RowEntry;
 use sample::Sample;
 
-// A number as a record keeps it.
+// A number as a record keeps it. `u8::try_from` would answer a refusal that no caller meets.
 pub fn narrow(x: usize) -> u8
     requires { x < 256 }
     ensures { result ≡ x }
@@ -43,7 +44,7 @@ fn drain_column<S: Sample>(
     lengths[x] = narrow(count - gone);
 }
 
-// Every column ages at step t. No sample is looked at: S is the kind of those that the cells hold.
+// Every column ages at step t. By x, for it finds a column's cells as well as its record. No sample is looked at: S is the kind of those that the cells hold.
 pub fn drain<S: Sample>(
     places: usize,
     positions: &[u8],
@@ -162,7 +163,7 @@ fn front_of<S: Sample>(
     queue::lent(values, positions, at, s)
 }
 
-// The value at the front of every column goes into the row, s being the steps done.
+// The value at the front of every column goes into the row, s being the steps done. By x, as in `drain`.
 pub fn fronts<S: Sample>(
     places: usize,
     values: &[S],

@@ -52,6 +52,7 @@ pub fn go(
     let mut machine = turns::at_head(1);
     let mut at = 0;
     let mut done = 0;
+    // Not a `for`: a turn says how many bytes it used, and the machine when it is over.
     while turns::is_on(machine) {
         let turned = put_turn(
             machine,

@@ -1,16 +1,11 @@
 -- The origins of the fronts: what is told of one, by the age that its cell keeps, and how the two rows fill up with them.
-use mathlib.Core.Path.{◌≡◌, sym, ◌∙◌}
-use mathlib.Core.List.{List}
-use Prim.Native.Nat.{ℕ, ◌+◌, ◌-◌, ◌*◌, ◌%◌, ◌≤◌, ◌<◌, min}
-use native.Mathlib.Nat.{zero-mul}
-use native.Mathlib.Omega.{arith}
-use borrow.Author.Tests.{le-leb, lt-leb}
-use lib.ListN.{length, get_or, set}
+use Rattle.std.proofs.Common.{◌≡◌, sym, ◌∙◌, List, ℕ, ◌+◌, ◌-◌, ◌*◌, ◌%◌, ◌≤◌, ◌<◌, min, zero-mul, arith, le-leb, length, get_or, set}
+use Rattle.std.proofs.lemmas.Bool.{lt-leb}
 use Rattle.morph.specs.Lists.{tabulate}
 use Rattle.morph.specs.Cell.{age_of}
 use Rattle.morph.proofs.Lists.{length_tabulate, get_d_tabulate}
-use Rattle.sample.proofs.Rows.{Filling, fill_start, fill_next, fill_end}
-use Rattle.columns.proofs.Cells.{ends_before, next_cells}
+use Rattle.sample.proofs.Rows.{Filling, fill_start, fill_next}
+use Rattle.columns.proofs.Cells.{next_cells}
 use Rattle.origin.specs.Inner.{slot_of, told_row, told_column, front_kept}
 
 -- ---- one front, whose cell keeps r and tells the age a
@@ -36,10 +31,6 @@ module _ (P s most a r : ℕ) (f : most ≡ min P s) (g : a ≡ age_of s r) wher
     pub column_far : (last : ℕ) → last ≡ s % P → a ≤ most → last < a → get_or columns ((last + P - a) * W + x) 0 ≡ told_column P W s columns x r
     unfolding told_column slot_of
     column_far last e h k = rw (← g, ← f, ← e, le-leb a most h, lt-leb a last k)
-
--- column x of a row of the ring is there
-pub slot_inside : (P W slot x n : ℕ) → slot < P → x < W → n ≡ W * P → slot * W + x < n
-slot_inside P W slot x n h k e = omega (arith, ends_before W slot P h)
 
 -- ---- the fronts go into the two rows
 
@@ -82,9 +73,3 @@ module _ (P s : ℕ) (ps cs ss rows cols : List ℕ) where
           columns_filled = rw v
               (fill_next (tabulate (length cols) column_of) cols cols' x g.columns_filled 0 (rw length_tabulate h) (told_column P (length cols) s cs x r) (rw (get_d_tabulate (length cols) column_of x 0 h, i)));
         }
-
-    pub telling_last : length cols ≤ x → (rows' ≡ tabulate (length cols) row_at) × (cols' ≡ tabulate (length cols) column_of)
-    telling_last h = (
-      fill_end (tabulate (length cols) row_at) rows rows' x g.rows_filled (rw length_tabulate h),
-      fill_end (tabulate (length cols) column_of) cols cols' x g.columns_filled (rw length_tabulate h),
-    )

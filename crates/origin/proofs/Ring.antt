@@ -1,14 +1,8 @@
 -- The ring of rows of columns: each of the last P rows has its own place, which the row P later takes over. By which idea: numbers less than P apart have different remainders by P.
-use mathlib.Core.Path.{◌≡◌, sym, ap, ◌∙◌}
-use mathlib.Core.List.{List, [], ◌++◌, append_assoc}
-use mathlib.Core.Logic.{◌≢◌}
-use Prim.Native.Nat.{ℕ, ◌+◌, ◌-◌, ◌*◌, ◌%◌, ◌≤◌, ◌<◌}
-use native.Mathlib.Nat.{mod-lt, mod-eq_of_lt, mod-add-mod, mod-eq-sub-mod}
-use native.Mathlib.Omega.{arith}
-use borrow.Author.Tests.{ltb-true, ltb-false, eqb-true, eqb-false, le-leb, lt-leb}
-use lib.Dec.{ltb, eqb}
-use lib.ListN.{length, get_or, take, drop, take-append-drop}
-use lib.Seq.{take-take, length-take-le, drop-append-le}
+use Rattle.std.proofs.Common.{◌≡◌, sym, ap, ◌∙◌, List, [], ◌++◌, append_assoc, ◌≢◌, ℕ, ◌+◌, ◌-◌, ◌*◌, ◌%◌, ◌≤◌, ◌<◌, mod-lt, mod-eq_of_lt, arith, ltb-true, ltb-false, eqb-true, le-leb, ltb, eqb, length, get_or, take, drop, take-append-drop, take-take, length-take-le}
+use Rattle.std.proofs.lemmas.Bool.{eqb-false, lt-leb}
+use Rattle.std.proofs.lemmas.List.{drop-append-le}
+use Rattle.std.proofs.Math.Nat.{mod-add-mod, mod-eq-sub-mod}
 use Rattle.morph.specs.Picture.{Picture, Stage as Filter}
 use Rattle.morph.specs.Origin.{positions_line}
 use Rattle.morph.proofs.Lists.{split}

@@ -1,13 +1,6 @@
 -- A stage's step that keeps the columns of its row: from what its parts promise to what it makes of them for every picture.
-use mathlib.Core.Path.{◌≡◌, refl, ap, ◌∙◌}
-use mathlib.Core.Bool.{true}
-use mathlib.Core.List.{List, []}
-use Prim.Native.Nat.{ℕ, ◌+◌, ◌*◌, ◌%◌, ◌≤◌, ◌<◌}
-use native.Mathlib.Nat.{mod-lt}
-use native.Mathlib.Omega.{arith}
+use Rattle.std.proofs.Common.{◌≡◌, refl, ap, ◌∙◌, true, List, [], ℕ, ◌+◌, ◌*◌, ◌%◌, ◌≤◌, ◌<◌, mod-lt, arith, length, drop, length-drop, length-take-le, drop-drop}
 use borrow.Rule.Slice.PartMut.{mid_of, put_mid, same_len_mid}
-use lib.ListN.{length, drop, length-drop}
-use lib.Seq.{length-take-le, drop-drop}
 use Rattle.morph.specs.Order.{order_of, reach_back, ahead_of}
 use Rattle.morph.specs.Lists.{Each}
 use Rattle.morph.specs.Inner.{cells_roomed}

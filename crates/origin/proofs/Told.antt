@@ -1,13 +1,7 @@
 -- What is told of the fronts of a stage's columns are the origins. By which idea: after step t the front of column x is the latest entry of its line that gives row t - F's pixel (`answer_front`), and of each row under the
 -- window the columns are kept, in the place of the row's remainder.
-use mathlib.Core.Path.{◌≡◌, refl, sym, ap, ◌∙◌}
-use mathlib.Core.List.{List, [], map}
-use Prim.Native.Nat.{ℕ, ◌+◌, ◌-◌, ◌*◌, ◌%◌, ◌≤◌, ◌<◌, min}
-use native.Mathlib.Nat.{add-zero, mod-lt}
-use native.Mathlib.Omega.{arith}
-use borrow.Author.Tests.{le-leb}
-use lib.ListN.{length, get_or, take, length-map}
-use lib.Seq.{take-take}
+use Rattle.std.proofs.Common.{◌≡◌, refl, sym, ap, ◌∙◌, List, [], map, ℕ, ◌+◌, ◌-◌, ◌*◌, ◌%◌, ◌≤◌, ◌<◌, min, add-zero, mod-lt, arith, le-leb, length, get_or, take, take-take}
+use Rattle.std.proofs.lemmas.List.{length-map}
 use Rattle.morph.specs.Lists.{tabulate}
 use Rattle.morph.specs.Line.{Entry}
 use Rattle.morph.specs.Cell.{age_of, row_of, read_at}

@@ -36,7 +36,7 @@ fn tell_one(
     origin_columns[x] = columns[(last + places - a) * width + x];
 }
 
-// The origin of every column's front goes into two rows, s being the steps done: the row and the column that it came from.
+// The origin of every column's front goes into two rows, s being the steps done: the row and the column that it came from. By x, for it finds a column's cells as well as its record.
 pub fn tell(
     places: usize,
     positions: &[u8],

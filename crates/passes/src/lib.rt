@@ -103,6 +103,7 @@ fn line_ahead<S: Choice>(kind: Kind, far: usize, a: &mut [S], t: &mut [S]) -> bo
 {
     let mut r = 0;
     let mut flip = false;
+    // Not a `for`: each pass reaches as far again as all before it.
     while r < far {
         let s = (r + 1).min(far - r);
         turn_ahead(kind, s, flip, a, t);
@@ -126,6 +127,7 @@ fn line_back<S: Choice>(
 {
     let mut r = 0;
     let mut flip = turn;
+    // Not a `for`: each pass reaches as far again as all before it.
     while r < far {
         let s = (ahead + r + 1).min(far - r);
         turn_back(kind, s, flip, a, t);

@@ -1,5 +1,6 @@
 // How a run of a plan over a picture starts and stops: the state before the first step, with the queues empty, of a picture whose rows are counted or of one that is open;
 // and the state of an open run once its stop is said. Crate picture hands on what a caller uses.
+// The sample kind comes as a number, and no enum: one that is neither 0 nor 1 is refused 5 (document 01, `sample_number`), so callers may give any.
 #![tactic(auto)]
 
 use picture_state::State;

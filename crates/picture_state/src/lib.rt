@@ -21,6 +21,7 @@ pub enum Ending {
 
 // A run of a plan over a picture: the plan, the sample kind's number, the width, how it ends, the rows, and the steps done.
 // The rows are the count given; 0 while the run is open; and the rows read once it has stopped.
+// The sample kind is a number, and no enum: a state of another one is one that is asked about, and refused 12 (document 01; `state_number`).
 #[derive(Clone, Copy, Debug, PartialEq, Eq)]
 pub struct State {
     pub plan: Plan,

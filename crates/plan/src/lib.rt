@@ -1,6 +1,8 @@
 // Plans of stages: their records, reading them from numbers, the named plans, and what to lend for them.
 #![tactic(auto)]
 
+// meaning: morph/specs/Refusals.antt `refusal_number`
+pub use morph::Refusal;
 // promise: plan_record/specs/Plan.antt `alternating_stages`
 pub use plan_named::alternating;
 // promise: plan_record/specs/Plan.antt `closing_stages`

@@ -26,7 +26,8 @@ fn stage_from(bytes: &[u8; 5]) -> Result<Stage, Refusal>
 }
 
 // The plan of stages of five bytes each: refused 1, of how many there are; then stage by stage 2, 3.
-fn plan_from(stages: &[[u8; 5]]) -> Result<Plan, Refusal>
+#[tactic(auto, unfolding(plan_record::specs::Plan::plan_given, plan_record::specs::Plan::given_number))]
+pub fn plan_from(stages: &[[u8; 5]]) -> Result<Plan, Refusal>
     ensures { reading_as result ≡ plan_given stages.now }
 {
     judge_count(stages.len())?;
@@ -38,6 +39,7 @@ fn plan_from(stages: &[[u8; 5]]) -> Result<Plan, Refusal>
 }
 
 // The plan that a count and five bytes a stage say; bytes after the last stage's are not looked at. Refused 1; then stage by stage 2, 3.
+#[tactic(auto, unfolding(plan_record::specs::Plan::plan_read, plan_record::specs::Plan::plan_number))]
 pub fn read_plan(count: u8, bytes: &[u8; 80]) -> Result<Plan, Refusal>
     ensures { reading_as result ≡ plan_read count bytes.now }
 {

@@ -11,9 +11,8 @@ use Rattle.morph.proofs.Numbers.{first_one, first_zero, skip, found}
 use Rattle.plan_record.specs.declared.Stage.{Stage}
 use Rattle.plan_record.specs.declared.Plan.{Plan}
 use Rattle.plan_record.specs.declared.Reading.{Reading}
-use Rattle.plan_record.specs.declared.Need.{Need}
-use Rattle.plan_record.specs.Plan.{unused, plan_of, used, total, reading_of, cells_needed, records_needed, plan_ahead, count_number, needs_number, needs_of, sequence_stages, alternating_stages}
-use Rattle.plan_record.specs.Inner.{added, added_all, reading_as, need_as}
+use Rattle.plan_record.specs.Plan.{unused, plan_of, used, total, reading_of, count_number, sequence_stages, alternating_stages}
+use Rattle.plan_record.specs.Inner.{added, added_all, reading_as}
 use Rattle.plan_record.proofs.Exits.{refused_some}
 
 -- ---- a stage more
@@ -108,15 +107,3 @@ count_zero count m e = let z = first_zero (count_number count) (m ∷ []) e in (
 
 pub mul_most : (a b c d : ℕ) → a ≤ c → b ≤ d → a * b ≤ c * d
 mul_most a b c d h k = let p = mul-le-mul_right b h in let q = mul-le-mul_left c k in omega arith
-
--- ---- what to lend
-
--- a refusal of either rule tells zeros, and its number
-pub needs_refused : (plan : Plan) (width : ℕ) (refusal : Refusal) (r : Result Need Refusal) → IsErrAnd r (λ e. e ≡ refusal) → refusal_number refusal ≡ needs_number plan width → need_as r ≡ needs_of plan width
-unfolding needs_of
-needs_refused plan width refusal (Ok _) h e = absurd h
-needs_refused plan width refusal (Err _) h e = let f = ne_eqb (refusal_number refusal) 0 (refused_some refusal) in cc
-
-pub needs_all : (plan : Plan) (width : ℕ) {c n a : ℕ} → needs_number plan width ≡ 0 → c ≡ cells_needed plan width → n ≡ records_needed plan width → a ≡ plan_ahead plan → record { number = 0; cells = c; records = n; ahead = a } ≡ needs_of plan width
-unfolding needs_of
-needs_all plan width z h f g = let t = eq-eqb (needs_number plan width) 0 z in cc

@@ -206,6 +206,7 @@ pub fn judge_extents(left: u8, right: u8, up: u8, down: u8) -> Result<(), Refusa
 }
 
 // A plan record is refused 1, or stage by stage 3.
+#[tactic(auto, unfolding(crate::specs::Plan::record_number))]
 pub fn judge(plan: Plan) -> Result<(), Refusal>
     ensures { said result ≡ record_number plan }
 {
@@ -250,6 +251,7 @@ impl From<Result<Need, Refusal>> for Need {
     }
 }
 
+#[tactic(auto, unfolding(crate::specs::Plan::needs_of, crate::specs::Plan::needs_number))]
 fn needed(plan: Plan, width: usize) -> Result<Need, Refusal>
     ensures { need_as result ≡ needs_of plan width }
 {

@@ -91,6 +91,7 @@ fn go<H: Clock + Eprint>(
         moved: ports::nothing(),
         have: 0,
     };
+    // Not a `for`: a turn says how many bytes it used, and the machine when it is over.
     while turns::is_on(machine) {
         let fetched = fetch(rt, from, bytes, hand, machine.wants, total)?;
         let have = fetched.have;

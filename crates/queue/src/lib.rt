@@ -165,6 +165,7 @@ pub fn pop<S: Sample>(
     let places = values.len();
     let mut left = count;
     let mut at = behind;
+    // Not a `for`: it goes on as long as entries are passed, and what is left is what is answered.
     while 0 < left {
         let i = previous(at, places);
         if !S::passes(kind, v, values[i]) {

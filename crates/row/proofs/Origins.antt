@@ -101,13 +101,6 @@ module _ {A : Type 0} (K : Samples A) (back ahead : ℕ) (row' : List A) (column
     pub origins : (kind : Kind) (row : List A) (columns : List ℕ) (c : ℕ) → length columns ≡ length row
         → ReadOrigins K kind back ahead row columns (length row) row' columns' vs ps start count c → ReadOrigins K kind back ahead row columns t row'' columns'' vs ps start' count' c
 
-  pub drain_origins_first : start < 63 → count ≤ back + ahead + 1 → DrainingOrigins row' columns' start count (length row')
-  drain_origins_first b f = record {
-    draining = drain_first K back ahead row' vs ps start count b f;
-    columns_long = refl;
-    origins = λ kind row columns c n h. rw h.read.long h;
-  }
-
   pub drain_origins_step : (row'' : List A) (columns'' : List ℕ) (start' count' t : ℕ) → DrainingOrigins row'' columns'' start' count' t → (v : A) (x gone next : ℕ) → length row' ≤ t
       → t < length row' + ahead → back ≤ 31 → ahead ≤ 31 → gone ≡ goes_of (back + ahead + 1) t count' (get_or ps start' 0) → gone ≤ count' → next ≡ wrap 63 (start' + gone) → next < 63
       → v ≡ get_or vs next K.order.blank → x ≡ get_or ps next 0

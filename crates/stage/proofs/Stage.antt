@@ -26,11 +26,7 @@ use Rattle.plan_record.specs.declared.Stage.{Stage}
 use Rattle.plan_record.specs.Plan.{filter_of, size_of, below_of}
 use Rattle.stage.specs.Inner.{RowTaken, StageMoved, StageStep}
 
--- the window reaches no further than its extents
-pub back_small : (kind : Kind) (a b : ℕ) → a ≤ 31 → b ≤ 31 → reach_back kind a b ≤ 31
-back_small Erosion a b h k = h
-back_small Dilation a b h k = k
-
+-- the window looks ahead no further than its extents
 pub ahead_small : (kind : Kind) (a b : ℕ) → a ≤ 31 → b ≤ 31 → ahead_of kind a b ≤ 31
 ahead_small Erosion a b h k = k
 ahead_small Dilation a b h k = h
@@ -232,11 +228,3 @@ module _ {A : Type 0} (K : Samples A) (s : Stage) (H t : ℕ) (M : Memory A) (ro
           f ∙ ap (λ n. tabulate n (front_at K (size_of s) M'.values M'.starts)) h.row_long
           ∙ fronts_row K s (length row) H p whole t M' (h.told p whole holds e).0 a b h.lent.sound.below;
     }
-
-    -- what taking the fronts asks for
-    pub fronts_ready : (P : ℕ) → P ≡ size_of s → length M.values ≡ length M.positions → length M.positions ≡ length row * size_of s
-        → (length M'.values ≡ length row' * P) × (length M'.positions ≡ length M'.values) × (length M'.starts ≡ length row') × ((x : ℕ) → x < length row' → get_or M'.starts x 0 < P)
-    fronts_ready P e l m =
-        let w = h.row_long in
-        let v = h.values_long ∙ l ∙ m in
-        (rw (e, w) v, h.lent.positions_long ∙ sym v, rw w h.lent.starts_long, λ x i. rw e (h.lent.sound.below x (rw (← w) i)))

@@ -13,7 +13,7 @@ use morph::Kind;
 use plan_record::{Stage, size_of};
 use sample::Sample;
 
-// The columns read the row. The kind is chosen here once, so that no loop has to ask for it.
+// The columns read the row. The kind is chosen here once, by a literal, so that no loop has to ask for it: a rule of speed (docs/DECISIONS.md, "Code shapes").
 pub fn read_columns<S: Sample>(
     kind: Kind,
     places: usize,

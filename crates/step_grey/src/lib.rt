@@ -1,4 +1,6 @@
 // A step on the bytes of a grey row: a row where there are rows, a drain after them. The row that comes out stands in the frame, behind its marker.
+// It is no twin of step_rate: a grey row stands in the bytes and in the frame as it is, while a row of floats is made of its bytes. One code for both would copy each grey row twice more, and want
+// two rows more of memory.
 #![tactic(auto)]
 
 ghost use Rattle.std.specs.Prelude.{◌≤◌, ◌<◌, length};

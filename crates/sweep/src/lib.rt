@@ -56,6 +56,7 @@ fn tick<S: Choice>(kind: Kind, far: usize, grid: Grid, t: usize, picture: &mut [
     ensures { Ticked (order_of kind S.samples.order) S.Fair grid.width grid.rows far t picture.old picture.new }
 {
     let mut r = 0;
+    // Not a `for`: each step reaches as far again as all before it.
     while r < far {
         let s = (r + 1).min(far - r);
         climb(kind, r, s, grid, t, picture);
@@ -82,6 +83,7 @@ fn lower<S: Choice>(kind: Kind, s: usize, grid: Grid, picture: &mut [S])
 {
     let width = grid.width;
     let mut z = grid.rows;
+    // Not a `for`: the rows are gone over from the last upwards, as long as there is one s rows above.
     while s < z {
         let k = (z - s).min(s);
         z -= k;
@@ -112,6 +114,7 @@ pub fn down_back<S: Choice>(kind: Kind, ahead: usize, far: usize, grid: Grid, pi
     ensures { ThenBack (order_of kind S.samples.order) S.Fair grid.width far ahead picture.old picture.new }
 {
     let mut r = 0;
+    // Not a `for`: each step reaches as far again as all before it.
     while r < far {
         let s = (ahead + r + 1).min(far - r);
         lower(kind, s, grid, picture);

@@ -1,5 +1,5 @@
 -- `columns::drain` meets its contract. The loop's invariant: the columns before x have aged.
-use native.Mathlib.Omega.{arith}
+use Rattle.std.proofs.Common.{arith}
 use Rattle.columns.proofs.Columns.{aging_next, aging_last}
 use Rattle.columns.proofs.drain.Goals as goal
 

@@ -1,7 +1,5 @@
 -- `columns::drain_column` meets its contract: the record moves past what goes.
-use mathlib.Core.Path.{◌≡◌, ◌∙◌}
-use Prim.Native.Nat.{◌+◌, ◌-◌}
-use native.Mathlib.Omega.{arith}
+use Rattle.std.proofs.Common.{◌≡◌, ◌∙◌, ◌+◌, ◌-◌, arith}
 use Rattle.columns.proofs.Cells.{column_in}
 use Rattle.columns.proofs.Column.{column_aged}
 use Rattle.columns.proofs.drain_column.Goals as goal

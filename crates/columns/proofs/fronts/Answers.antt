@@ -1,5 +1,5 @@
 -- `columns::fronts` meets its contract. The loop's invariant: the fronts of the columns before x stand in the row.
-use native.Mathlib.Omega.{arith}
+use Rattle.std.proofs.Common.{arith}
 use Rattle.columns.proofs.Columns.{fronting_first, fronting_next}
 use Rattle.columns.proofs.fronts.Goals as goal
 

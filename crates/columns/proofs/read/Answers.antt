@@ -1,6 +1,5 @@
 -- `columns::read` meets its contract. The loop's invariant: the columns before x have read.
-use mathlib.Core.Path.{refl}
-use native.Mathlib.Omega.{arith}
+use Rattle.std.proofs.Common.{refl, arith}
 use Rattle.std.proofs.lemmas.List.{get_or_read_under}
 use Rattle.columns.proofs.Columns.{reading_next}
 use Rattle.columns.proofs.read.Goals as goal

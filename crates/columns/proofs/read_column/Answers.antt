@@ -1,7 +1,5 @@
 -- `columns::read_column` meets its contract: the column's cells are lent to the push, and its record is stored.
-use mathlib.Core.Path.{◌≡◌}
-use Prim.Native.Nat.{◌+◌, ◌-◌}
-use native.Mathlib.Omega.{arith}
+use Rattle.std.proofs.Common.{◌≡◌, ◌+◌, ◌-◌, arith}
 use Rattle.columns.proofs.Column.{column_read}
 use Rattle.columns.proofs.read_column.Goals as goal
 

@@ -1,9 +1,8 @@
 -- `columns::sound` meets its contract. The loop's invariant: the flag is that of the records passed.
-use mathlib.Core.Path.{◌≡◌, refl}
-use lib.ListN.{length, length-append}
+use Rattle.std.proofs.Common.{◌≡◌, refl, length, length-append}
+use Rattle.std.proofs.lemmas.Slice.Zip.{zip_turn}
 use Rattle.std.specs.Iterator.Adapters.{zip_first, zip_second}
 use Rattle.std.specs.Slice.Iter.{iter_rest}
-use Rattle.std.proofs.lemmas.Slice.Zip.{zip_turn}
 use Rattle.memory.specs.Memory.{sound_records}
 use Rattle.columns.proofs.Records.{judge_next}
 use Rattle.columns.proofs.sound.Goals as goal

@@ -1,6 +1,5 @@
 -- `columns::sound` meets its contract. The loop's invariant: the flag is that of the records passed.
-use mathlib.Core.Path.{◌≡◌}
-use lib.ListN.{length, take}
+use Rattle.std.proofs.Common.{◌≡◌, length, take}
 use Rattle.memory.specs.Memory.{sound_records}
 use Rattle.columns.proofs.sound.Given as goal
 

@@ -1,8 +1,5 @@
 -- `tell` meets its contract. The loop's invariant: the origins of the fronts of the columns before x stand in the two rows.
-use mathlib.Core.Path.{◌≡◌, refl}
-use Prim.Native.Nat.{◌+◌}
-use native.Mathlib.Omega.{arith}
-use lib.ListN.{length, get_or}
+use Rattle.std.proofs.Common.{◌≡◌, refl, ◌+◌, arith, length, get_or}
 use Rattle.origin.proofs.Fronts.{telling_first, telling_next}
 use Rattle.origin.proofs.tell.Goals as goal
 

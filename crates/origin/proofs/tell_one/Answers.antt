@@ -1,7 +1,5 @@
 -- `tell_one` meets its contract: the age in the cell tells the row, and where in the ring its columns are.
-use mathlib.Core.Path.{ap}
-use native.Mathlib.Omega.{arith}
-use lib.ListN.{set}
+use Rattle.std.proofs.Common.{ap, arith, set}
 use Rattle.origin.proofs.Fronts.{row_none, column_none, row_some, column_near, column_far}
 use Rattle.origin.proofs.tell_one.Goals as goal
 

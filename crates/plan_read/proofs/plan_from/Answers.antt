@@ -8,7 +8,7 @@ use Rattle.morph.specs.Numbers.{first_of}
 use Rattle.morph.proofs.Numbers.{judging_next, judging_found, judging_last}
 use Rattle.plan_record.specs.Plan.{plan_of, stage_out_of, stage_number, stages_given, given_number, plan_given}
 use Rattle.plan_record.proofs.Exits.{refused_some}
-use Rattle.plan_record.proofs.Laws.{reading_refused, reading_accepted, count_refused, count_accepted, table_more}
+use Rattle.plan_record.proofs.Laws.{reading_refused, reading_accepted, count_accepted, table_more}
 use Rattle.plan_record.proofs.Named.{counted}
 use native.Mathlib.Omega.{arith}
 use Rattle.plan_read.proofs.plan_from.Goals as goal
@@ -19,17 +19,6 @@ number stages k = stage_number (get_or stages k []) 0
 
 abbrev numbers : List (List ℕ) → ℕ
 numbers stages = first_of (tabulate (length stages) (number stages))
-
-pub returns-in_err-judge_count : goal.returns-in_err-judge_count
-unfolding plan_given given_number
-returns-in_err-judge_count c =
-    let stages = c.args.stages.now in
-    let e = c.in_err-judge_count.ensures in
-    reading_refused (plan_of (stages_given stages)) c.in_err-judge_count.field-0.0 _ c.from_residual.ensures.1
-    (count_refused (length stages) (numbers stages) e (refused_some c.in_err-judge_count.field-0.0))
-
-pub add-plan-requires : goal.add-plan-requires
-add-plan-requires c = let n = counted (length c.args.stages.now) (sym c.in_ok-judge_count.ensures) in omega arith
 
 pub returns-in_err-stage_from : goal.returns-in_err-stage_from
 unfolding plan_given given_number

@@ -5,20 +5,10 @@ use Prim.Native.Nat.{ℕ, ◌/◌}
 use lib.ListN.{length, take}
 use native.Mathlib.Omega.{arith}
 use Rattle.std.proofs.Common.{rules}
-use Rattle.plan_record.specs.Plan.{count_number, plan_of, stages_from, stages_number, plan_number, plan_read, plan_given}
-use Rattle.plan_record.proofs.Exits.{refused_some}
-use Rattle.plan_record.proofs.Laws.{reading_refused, count_refused}
+use Rattle.plan_record.specs.Plan.{count_number, plan_given}
 use Rattle.plan_record.proofs.Named.{counted}
 use Rattle.plan_read.proofs.Chunks.{plan_cut}
 use Rattle.plan_read.proofs.read_plan.Goals as goal
-
-pub returns-in_err-judge_count : goal.returns-in_err-judge_count
-unfolding plan_read plan_number
-returns-in_err-judge_count c =
-    let a = c.args in
-    let e : c.from-n.result ≡ a.count = search rules in
-    reading_refused (plan_of (stages_from a.count a.bytes.now)) c.in_err-judge_count.field-0.0 _ c.from_residual.ensures.1
-    (count_refused a.count (stages_number a.count a.bytes.now) (c.in_err-judge_count.ensures ∙ ap count_number e) (refused_some c.in_err-judge_count.field-0.0))
 
 pub returns : goal.returns
 returns c =

@@ -1,15 +1,11 @@
 -- What is left to judge decides.
 use Rattle.std.proofs.Common.{◌≡◌, refl, sym, ap, ◌∙◌, ◌<◌, length, get_or, take, get_or-take, length-take-le, arith}
 use Rattle.morph.proofs.Numbers.{judging_next, judging_found, judging_last}
-use Rattle.plan_record.proofs.Exits.{said_up, first_up, refused_some}
+use Rattle.plan_record.proofs.Exits.{said_up, refused_some}
 use Rattle.plan_record.proofs.Laws.{count_accepted}
 use Rattle.plan_record.proofs.Named.{counted}
 use Rattle.plan_record.specs.Plan.{unused, record_stage_number, record_stages_number, record_number}
 use Rattle.plan_record.proofs.judge.Goals as goal
-
-pub returns-in_err-judge_count : goal.returns-in_err-judge_count
-unfolding record_number
-returns-in_err-judge_count c = first_up c.in_err-judge_count.field-0.0 _ _ _ c.from_residual.ensures.1 c.in_err-judge_count.ensures
 
 pub returns-in_err-judge_extents : goal.returns-in_err-judge_extents
 unfolding record_number record_stages_number
