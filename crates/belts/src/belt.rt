@@ -9,15 +9,6 @@ pub enum Leaves {
     Rest,
 }
 
-// The cells' values of both kinds, and an output row of each kind.
-#[derive(Clone, Copy)]
-pub struct Samples {
-    pub greys: [u8; 4096],
-    pub rates: [f32; 4096],
-    pub out: [u8; 1024],
-    pub came: [f32; 1024],
-}
-
 // How many of the values, positions, starts and lengths are lent.
 #[derive(Clone, Copy, Debug, PartialEq, Eq)]
 pub struct Lent {
@@ -34,15 +25,18 @@ pub struct Edge {
     pub records: usize,
 }
 
-// A run, with the cells' positions and the column records. The edge parts what the plan needs from what is behind it; the sums are of all of the memory and of what is behind the edge.
+// A run, with its memory: the cells' values of both kinds, their positions, the column records, and an output row of each kind. The edge parts what the plan needs from what is behind it; the sums are of all of the memory and of what is behind the edge.
 // The start and the length are those that a record had before it was set.
 #[derive(Clone, Copy)]
 pub struct Belt {
     pub state: State,
-    pub samples: Samples,
+    pub greys: [u8; 4096],
+    pub rates: [f32; 4096],
     pub positions: [u8; 4096],
     pub starts: [u8; 1024],
     pub lengths: [u8; 1024],
+    pub out: [u8; 1024],
+    pub came: [f32; 1024],
     pub lent: Lent,
     pub edge: Edge,
     pub start: u8,
@@ -50,16 +44,6 @@ pub struct Belt {
     pub leaves: Leaves,
     pub all: usize,
     pub rest: usize,
-}
-
-// Before the first start the memory holds no zeros: 171 is no remainder of a row number, and no start or length of a queue.
-fn fresh() -> Samples {
-    Samples {
-        greys: [171; 4096],
-        rates: [171.0; 4096],
-        out: [171; 1024],
-        came: [171.0; 1024],
-    }
 }
 
 fn no_state() -> State {
@@ -73,14 +57,17 @@ fn no_state() -> State {
     }
 }
 
-// No run yet, and all of the memory lent.
+// No run yet, and all of the memory lent. Before the first start it holds no zeros: 171 is no remainder of a row number, and no start or length of a queue.
 pub fn first() -> Belt {
     Belt {
         state: no_state(),
-        samples: fresh(),
+        greys: [171; 4096],
+        rates: [171.0; 4096],
         positions: [171; 4096],
         starts: [171; 1024],
         lengths: [171; 1024],
+        out: [171; 1024],
+        came: [171.0; 1024],
         lent: Lent {
             values: 4096,
             positions: 4096,

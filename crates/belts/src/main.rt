@@ -14,7 +14,6 @@ mod begin; // begin.rt: starts and stops
 mod belt; // belt.rt: the state, the memory and what of it is lent
 mod change; // change.rt: what is set from outside
 mod command; // command.rt: how a command is read
-mod kind; // kind.rt: the two kinds of sample
 mod steps; // steps.rt: calls on pictures of either kind
 mod watch; // watch.rt: whether a call left alone what it has to
 

@@ -38,8 +38,8 @@ fn between<T: Counted>(row: &[T], from: usize, to: usize, before: usize) -> usiz
 
 // The sum with the cells and the records between two edges.
 fn sum(belt: &Belt, from: Edge, to: Edge, before: usize) -> usize {
-    let greys = between(&belt.samples.greys, from.cells, to.cells, before);
-    let rates = between(&belt.samples.rates, from.cells, to.cells, greys);
+    let greys = between(&belt.greys, from.cells, to.cells, before);
+    let rates = between(&belt.rates, from.cells, to.cells, greys);
     let cells = between(&belt.positions, from.cells, to.cells, rates);
     let starts = between(&belt.starts, from.records, to.records, cells);
     between(&belt.lengths, from.records, to.records, starts)
