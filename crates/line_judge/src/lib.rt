@@ -45,6 +45,17 @@ fn is_off(pixels: usize) -> bool
     pixels == 0 || 65535 < pixels
 }
 
+// The kind of a number: 0 is erosion, and every other dilation. It stands beside `Kind::try_from`, since it cannot fail.
+pub fn kind_of(kind: u8) -> Kind
+    ensures { result ≡ kind_of kind }
+{
+    if kind == 0 {
+        Kind::Erosion
+    } else {
+        Kind::Dilation
+    }
+}
+
 // The kind of a line that is started so, or why it is refused.
 pub fn start(kind: u8, left: u8, right: u8, pixels: usize) -> Result<Kind, Refusal>
     ensures number { said result ≡ line_start_number kind left right pixels }

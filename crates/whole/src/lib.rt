@@ -54,7 +54,8 @@ pub fn apply<S: InPlace>(
 ) -> Filtered
     ensures { FiltersWhole S.samples (stages_of S.samples.order plan) width rows picture.old row.old picture.new row.new (record_number plan) result }
 {
-    if let Err(refusal) = whole_judge::judge(plan, width, rows, picture.len(), row.len()) {
+    let judged = plan_record::judge(plan);
+    if let Err(refusal) = whole_judge::judge(judged, width, rows, picture.len(), row.len()) {
         return whole_judge::say(refusal.number());
     }
     if let Some(place) = S::take(picture) {

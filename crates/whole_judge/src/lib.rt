@@ -3,11 +3,9 @@
 
 ghost use Rattle.std.specs.Prelude.{◌≡◌, ◌<◌, ◌/◌, ◌%◌};
 ghost use Rattle.morph.specs.Refusals.{said};
-ghost use Rattle.plan_record.specs.Plan.{record_number};
 ghost use Rattle.whole_judge.specs.Whole.{lent_judged};
 
 use morph::Refusal;
-use plan_record::Plan;
 
 // What a call on a whole picture answers: 0, or a refusal's number; for 8 the row and the column of the first pixel that is not finite, else zeros.
 // It stays a record of numbers: C reads it.
@@ -19,17 +17,17 @@ pub struct Filtered {
     pub column: usize,
 }
 
-// Whether a plan may be applied to what is lent beside it. Refused as the plan is; then 4; 7 for the picture; 6 for the row.
+// Whether a plan that was judged may be applied to what is lent beside it. Refused as the plan is; then 4; 7 for the picture; 6 for the row.
 pub fn judge(
-    plan: Plan,
+    judged: Result<(), Refusal>,
     width: usize,
     rows: usize,
     pixels: usize,
     places: usize,
 ) -> Result<(), Refusal>
-    ensures { said result ≡ lent_judged (record_number plan) width rows pixels places }
+    ensures { said result ≡ lent_judged (said judged) width rows pixels places }
 {
-    plan_record::judge(plan)?;
+    judged?;
     plan_record::judge_size(width, rows)?;
     if pixels != rows * width {
         return Err(Refusal::RowLength);

@@ -12,25 +12,25 @@ returns-in-Err g c =
     let a = c.args in
     let K = g.S.Sample.samples in
     let n = c.number.ensures in
-    whole_refused K (stages_of K.order a.plan) (record_number a.plan) a.width a.rows a.picture.now a.row.now (n.0 ∙ c.in-Err.ensures) (λ z. absurd (omega arith)) c.say.ensures
+    whole_refused K (stages_of K.order a.plan) (record_number a.plan) a.width a.rows a.picture.now a.row.now (n.0 ∙ rw c.judge-judged.ensures at c.in-Err.ensures) (λ z. absurd (omega arith)) c.say.ensures
 
 pub say_not_finite-requires : goal.say_not_finite-requires
-say_not_finite-requires g c = (lent_all _ _ _ _ _ (sym c.in_default.ensures)).some
+say_not_finite-requires g c = (lent_all _ _ _ _ _ (rw c.judge-judged.ensures at (sym c.in_default.ensures))).some
 
 pub returns-in-Some : goal.returns-in-Some
 returns-in-Some g c =
     let a = c.args in
     let K = g.S.Sample.samples in
     let (told, inside, stays) = c.in-Some.ensures in
-    whole_not_finite K (stages_of K.order a.plan) (record_number a.plan) a.width a.rows a.picture.now a.row.now (sym c.in_default.ensures) c.in-Some.place _ told inside stays c.say_not_finite.ensures
+    whole_not_finite K (stages_of K.order a.plan) (record_number a.plan) a.width a.rows a.picture.now a.row.now (rw c.judge-judged.ensures at (sym c.in_default.ensures)) c.in-Some.place _ told inside stays c.say_not_finite.ensures
 
 pub invariant_of-run : goal.invariant_of-run
-invariant_of-run g c = record { rows_fit = (lent_all _ _ _ _ _ (sym c.in_default.ensures)).rows_fit }
+invariant_of-run g c = record { rows_fit = (lent_all _ _ _ _ _ (rw c.judge-judged.ensures at (sym c.in_default.ensures))).rows_fit }
 
 pub run-requires : goal.run-requires
 run-requires g c =
     let a = c.args in
-    let l = lent_all _ _ _ _ _ (sym c.in_default.ensures) in
+    let l = lent_all _ _ _ _ _ (rw c.judge-judged.ensures at (sym c.in_default.ensures)) in
     let (_, _, fair) = c.in_default-take.ensures in
     ((judged_count a.plan l.planned).1, c.picture-1.given ∙ l.whole, l.room, fair)
 
@@ -38,7 +38,7 @@ pub returns : goal.returns
 returns g c =
     let a = c.args in
     let K = g.S.Sample.samples in
-    let z = sym c.in_default.ensures in
+    let z = rw c.judge-judged.ensures at (sym c.in_default.ensures) in
     let l = lent_all _ _ _ _ _ z in
     let (good, taken, _) = c.in_default-take.ensures in
     whole_done K (stages_of K.order a.plan) (record_number a.plan) a.width a.rows a.picture.now a.row.now z _ _ good c.say-2.ensures
