@@ -9,6 +9,7 @@ ghost use Rattle.morph.specs.Lists.{tabulate};
 ghost use Rattle.morph.specs.Cell.{row_of};
 ghost use Rattle.morph.specs.Inner.{cells_roomed, step_cost};
 ghost use Rattle.columns.specs.Inner.{Lent, only, Moved, RecordsMoved, reads, RowRead, front_at, EntryAt};
+ghost use Rattle.sample.specs.Samples.{greys, rates};
 ghost use Rattle.memory.specs.Memory.{sound_records, column_at};
 
 use morph::Kind;
@@ -34,7 +35,9 @@ fn drain_column<S: Sample>(
     t: usize,
 )
     requires { Lent places (length starts.old) positions.now starts.old lengths.old × (lo ≡ x * places) × (x < length starts.old) × (t ≤ 4294967800) }
-    ensures { RecordsMoved S.samples places (length starts.old) (only x (cells_roomed places t)) positions.now starts.old lengths.old starts.new lengths.new }
+    ensures { RecordsMoved S.samples places (length starts.old) (only x (cells_roomed places t)) positions.now starts.old lengths.old starts.new lengths.new
+        × RecordsMoved greys places (length starts.old) (only x (cells_roomed places t)) positions.now starts.old lengths.old starts.new lengths.new
+        × RecordsMoved rates places (length starts.old) (only x (cells_roomed places t)) positions.now starts.old lengths.old starts.new lengths.new }
 {
     let hi = lo + places;
     let start = usize::from(starts[x]);
@@ -44,7 +47,7 @@ fn drain_column<S: Sample>(
     lengths[x] = narrow(count - gone);
 }
 
-// Every column ages at step t. By x, for it finds a column's cells as well as its record. No sample is looked at: S is the kind of those that the cells hold.
+// Every column ages at step t. By x, for it finds a column's cells as well as its record. No sample is looked at: what is so of cells of S is so of bytes and of floats.
 pub fn drain<S: Sample>(
     places: usize,
     positions: &[u8],
@@ -53,7 +56,9 @@ pub fn drain<S: Sample>(
     t: usize,
 )
     requires { Lent places (length starts.old) positions.now starts.old lengths.old × (t ≤ 4294967800) }
-    ensures { RecordsMoved S.samples places (length starts.old) (λ _. cells_roomed places t) positions.now starts.old lengths.old starts.new lengths.new }
+    ensures { RecordsMoved S.samples places (length starts.old) (λ _. cells_roomed places t) positions.now starts.old lengths.old starts.new lengths.new
+        × RecordsMoved greys places (length starts.old) (λ _. cells_roomed places t) positions.now starts.old lengths.old starts.new lengths.new
+        × RecordsMoved rates places (length starts.old) (λ _. cells_roomed places t) positions.now starts.old lengths.old starts.new lengths.new }
 {
     let mut lo = 0;
     for x in 0..starts.len() {

@@ -8,4 +8,4 @@ returns-then-t-rows g c =
 
 pub returns : goal.returns
 returns g c =
-    drained_moved g.S.Sample.samples _ _ _ _ _ _ _ c.if-t-rows.false c.requires.4 c.requires.2.starts_long (rw c.size_of.ensures.0 at c.drain.ensures)
+    drained_moved g.S.Sample.samples _ _ _ _ _ _ _ c.if-t-rows.false c.requires.4 c.requires.2.starts_long (rw c.size_of.ensures.0 at c.drain.ensures.0)

@@ -8,4 +8,4 @@ returns-then-t-rows g c =
 
 pub returns : goal.returns
 returns g c =
-    drained_origins g.S.Sample.samples _ _ _ _ _ _ _ _ c.if-t-rows.false c.requires.5 c.requires.2.starts_long (rw c.size_of.ensures.0 at c.drain.ensures)
+    drained_origins g.S.Sample.samples _ _ _ _ _ _ _ _ c.if-t-rows.false c.requires.5 c.requires.2.starts_long (rw c.size_of.ensures.0 at c.drain.ensures.0)
