@@ -5,7 +5,7 @@ ghost use Rattle.std.specs.Prelude.{◌≡◌, ◌≤◌, ◌++◌, ◌+◌, ◌
 ghost use Rattle.morph.specs.Refusals.{said};
 ghost use Rattle.plan_record.specs.Inner.{reading_as};
 ghost use Rattle.job_read.specs.Layout.{sample_bytes_of, job_from};
-ghost use Rattle.job_read.specs.Job.{plan_section_of, head_number, head_answered, head_section_number, rows_number, job_answered, job_read_of};
+ghost use Rattle.job_read.specs.Job.{plan_section_of, head_number, head_answered, head_section_number, rows_number, no_job, job_answered, job_read_of};
 ghost use Rattle.job_read.specs.Inner.{head_as, read_as, front_number};
 
 use morph::Refusal;
@@ -73,17 +73,24 @@ impl From<Result<Job, Refusal>> for JobRead {
     fn from(read: Result<Job, Refusal>) -> JobRead {
         match read {
             Ok(job) => JobRead { number: 0, job },
-            Err(refusal) => JobRead {
-                number: refusal.number(),
-                job: Job {
-                    plan: plan_record::empty(),
-                    sample: 0,
-                    width: 0,
-                    rows: 0,
-                    at: 0,
-                },
-            },
+            Err(refusal) => refused(refusal.number()),
         }
+    }
+}
+
+// What a refused job is read as.
+pub fn refused(number: u8) -> JobRead
+    ensures { result ≡ record { number = number; job = no_job } }
+{
+    JobRead {
+        number,
+        job: Job {
+            plan: plan_record::empty(),
+            sample: 0,
+            width: 0,
+            rows: 0,
+            at: 0,
+        },
     }
 }
 
@@ -156,7 +163,7 @@ pub fn read_head(bytes: &[u8; 5]) -> Head
     Head::from(image_of(bytes))
 }
 
-// The image head that stands at `at`. Refused 13, 5, 4.
+// What the five bytes at `at` say. Refused 13, 5, 4.
 fn image_at(bytes: &[u8], at: usize) -> Result<Image, Refusal>
     requires { at ≤ length bytes.now }
     ensures { head_as result ≡ head_answered (head_section_number bytes.now at) (drop at bytes.now) }
@@ -165,6 +172,14 @@ fn image_at(bytes: &[u8], at: usize) -> Result<Image, Refusal>
         return Err(Refusal::EndsEarly);
     };
     image_of(five)
+}
+
+// The image head that stands at `at`. Refused 13, 5, 4.
+pub fn head_section(bytes: &[u8], at: usize) -> Head
+    requires { at ≤ length bytes.now }
+    ensures { result ≡ head_answered (head_section_number bytes.now at) (drop at bytes.now) }
+{
+    Head::from(image_at(bytes, at))
 }
 
 // ---- the whole job

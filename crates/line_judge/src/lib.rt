@@ -101,7 +101,7 @@ impl Shape {
     }
 
     // Whether the line breaks rule 12.
-    fn is_broken(self) -> bool
+    pub fn is_broken(self) -> bool
         ensures { result ≡ broken self.kind self.left self.right self.pixels self.step self.start self.count }
     {
         if is_extent_over(self.left, self.right) {

@@ -54,14 +54,20 @@ pub fn first_state(plan: Plan, sample: u8, width: usize, ending: Ending, rows: u
 }
 
 // A refused start hands back all zeros.
+pub fn not_started(number: u8) -> Started
+    ensures { (result.number ≡ number) × (result.state ≡ state_of_none) }
+{
+    Started {
+        number,
+        state: first_state(plan_record::empty(), 0, 0, Ending::Fixed, 0),
+    }
+}
+
 impl From<Refusal> for Started {
     ghost from_gives = { λ refusal r. (r.number ≡ refusal_number refusal) × (r.state ≡ state_of_none) };
 
     fn from(refusal: Refusal) -> Started {
-        Started {
-            number: refusal.number(),
-            state: first_state(plan_record::empty(), 0, 0, Ending::Fixed, 0),
-        }
+        not_started(refusal.number())
     }
 }
 

@@ -9,7 +9,7 @@ mod begin; // begin.rt: starting a run
 mod open; // open.rt: starting an open run
 mod end; // end.rt: the stop of an open run
 
-pub use begin::{start, start_numbers};
+pub use begin::{not_started, start, start_numbers};
 pub use end::stop;
 pub use open::{start_open, start_open_numbers};
 
