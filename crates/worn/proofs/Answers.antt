@@ -176,10 +176,15 @@ module _ (Q : Question) (closed input : List ℕ) where
         pub pair_negative : {r : Asked} {n : ℕ} → Answered Q.left Q.right Q.up Q.down Q.row Q.rows closed input (Refused n) → r ≡ record { answer = Not n; question = Q } → WornPair Q closed input r
         pair_negative h q = refuses (number_residue ∙ sym h.number) (refused_number Q.left Q.right Q.up Q.down Q.row Q.rows closed input h) q
 
-        -- the same of a refusal that is handed up
-        pub pair_up : (why : Refusal) (r : Result Question Refusal) → IsErrAnd r (λ e. e ≡ why) → Answered Q.left Q.right Q.up Q.down Q.row Q.rows closed input (Refused (refusal_number why)) → WornPair Q closed input (asked_as Q r)
-        pair_up why (Ok _) h e = absurd h
-        pair_up why (Err _) h e = rw h (pair_negative e refl)
+        -- what is refused is 16
+        pub pair_sixteen : {r : Asked} {n : ℕ} → Answered Q.left Q.right Q.up Q.down Q.row Q.rows closed input (Refused n) → r ≡ record { answer = Not 16; question = Q } → WornPair Q closed input r
+        pair_sixteen {r} {n} h q =
+            let said : n ≡ sixteen = h.number ∙ sym number_residue ∙ number_row ∙ rw (eq-eqb (length closed) Q.width c, eq-eqb (length input) Q.width i) (first_one sixteen) in
+            let e : n ≡ 16 =
+            split (negative Q.left Q.right Q.up Q.down Q.row Q.rows closed input)
+            (λ f. said ∙ rw f refl)
+            (λ f. absurd (refused_number Q.left Q.right Q.up Q.down Q.row Q.rows closed input h (said ∙ rw f refl))) in
+            pair_negative h (rw e q)
 
   -- ---- a pair that is refused, one that is taken, and one after a yes
 

@@ -6,6 +6,7 @@ ghost use Rattle.worn.specs.Worn.{first_question, over_limit, say_of, is_broken_
 ghost use Rattle.worn.specs.Inner.{asked_as};
 
 use morph::Refusal;
+use residue::Residue;
 
 // What the caller keeps between two pairs: the closing's extents, the picture's size, the limit, how many rows are read, and what their residues add up to. Whether yes was said can be seen from the last and the limit.
 #[repr(C)]
@@ -155,7 +156,7 @@ fn next(question: Question, closed: &[u8], input: &[u8]) -> Result<Question, Ref
     if closed.len() != question.width || input.len() != question.width {
         return Err(Refusal::RowLength);
     }
-    let sum = residue::counted(
+    match residue::dark(
         question.left,
         question.right,
         question.up,
@@ -164,8 +165,11 @@ fn next(question: Question, closed: &[u8], input: &[u8]) -> Result<Question, Ref
         question.rows,
         closed,
         input,
-    )?;
-    Ok(with_row(question, sum))
+    ) {
+        Residue::Sum(sum) => Ok(with_row(question, sum)),
+        // 16: the start has judged all else that `dark` refuses, and 12 and 7 have here.
+        Residue::Refused(_) => Err(Refusal::Negative),
+    }
 }
 
 // The next pair of rows. Refused 12, 9, 7, 16, with the question as it was.

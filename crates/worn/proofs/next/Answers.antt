@@ -1,8 +1,9 @@
 -- Each way out by its law.
-use mathlib.Core.Path.{refl, sym, ◌∙◌}
+use mathlib.Core.Path.{refl, sym, subst, ◌∙◌}
 use native.Mathlib.Omega.{arith}
+use Rattle.residue.specs.Residue.{Answered}
 use Rattle.worn.specs.Inner.{Awaits}
-use Rattle.worn.proofs.Answers.{room_there, pair_broken, pair_yes, pair_late, pair_closed, pair_input, pair_read, pair_up}
+use Rattle.worn.proofs.Answers.{room_there, pair_broken, pair_yes, pair_late, pair_closed, pair_input, pair_read, pair_sixteen}
 use Rattle.worn.proofs.next.Goals as goal
 use Rattle.worn.proofs.next.Goals.{Else-question, then-closed-question-via-then-closed-question, then-closed-question-via-else-closed-question+then-input-question}
 
@@ -27,15 +28,17 @@ returns-then-closed-question c =
       | then-closed-question-via-else-closed-question+then-input-question v ↦ pair_input _ _ _ w v.if-closed-question.false v.if-input-question.true refl
     ]
 
-pub returns-in_err-sum : goal.returns-in_err-sum
-returns-in_err-sum c =
-    let w = awaits (goal.at.returns-in_err-sum c).Else-question in
-    pair_up _ _ _ w c.if-closed-question.false c.if-input-question.false c.in_err-sum.field-0.0 _ c.from_residual.ensures.1 c.in_err-sum.ensures
-
 pub with_row-requires : goal.with_row-requires
 with_row-requires c =
-    room_there _ _ _ (awaits (goal.at.with_row-requires c).Else-question) c.if-closed-question.false c.if-input-question.false (λ x. omega (arith, c.type_inv.closed x)) c.in_ok-sum.ensures
+    room_there _ _ _ (awaits (goal.at.with_row-requires c).Else-question) c.if-closed-question.false c.if-input-question.false (λ x. omega (arith, c.type_inv.closed x))
+    (subst (Answered _ _ _ _ _ _ _ _) c.in-Sum.is c.dark.ensures)
 
-pub returns : goal.returns
-returns c =
-    pair_read _ _ _ (awaits (goal.at.returns c).Else-question) c.if-closed-question.false c.if-input-question.false c.in_ok-sum.ensures (rw c.with_row.ensures refl)
+pub returns-in-Sum : goal.returns-in-Sum
+returns-in-Sum c =
+    pair_read _ _ _ (awaits (goal.at.returns-in-Sum c).Else-question) c.if-closed-question.false c.if-input-question.false
+    (subst (Answered _ _ _ _ _ _ _ _) c.in-Sum.is c.dark.ensures) (rw c.with_row.ensures refl)
+
+pub returns-in-Refused : goal.returns-in-Refused
+returns-in-Refused c =
+    pair_sixteen _ _ _ (awaits (goal.at.returns-in-Refused c).Else-question) c.if-closed-question.false c.if-input-question.false
+    (subst (Answered _ _ _ _ _ _ _ _) c.in-Refused.is c.dark.ensures) refl
