@@ -10,6 +10,8 @@
 //     47             words for the reader follow
 //
 // These numbers are hexadecimal. A plan is its count and 80 numbers.
+ghost use Rattle.std.specs.Prelude.{◌≤◌, length};
+
 use script::{number, up_to_mut};
 use std::io::Read;
 
@@ -45,7 +47,9 @@ pub fn read(from: &mut impl Read) -> Option<Command> {
 }
 
 // The bytes that follow a command, as many as there is room for.
-pub fn follow<'a>(from: &mut impl Read, size: usize, room: &'a mut [u8]) -> &'a [u8] {
+pub fn follow<'a>(from: &mut impl Read, size: usize, room: &'a mut [u8]) -> &'a [u8]
+    ensures { length result.now ≤ length room.old }
+{
     let part = up_to_mut(size, room);
     let _ = from.read_exact(part);
     part

@@ -1,6 +1,8 @@
 // How the test programs read their scripts: numbers, low byte first, and plans; and how much of an array is lent.
 #![tactic(auto)]
 
+ghost use Rattle.std.specs.Prelude.{◌≡◌, ◌≤◌, length, take};
+
 use morph::Kind;
 use plan_record::{Plan, Stage};
 
@@ -54,12 +56,16 @@ pub fn record(given: &[u8]) -> Plan {
 // ---- how much is lent
 
 // So many of a row, or all.
-pub fn up_to<T>(n: usize, row: &[T]) -> &[T] {
+pub fn up_to<T>(n: usize, row: &[T]) -> &[T]
+    ensures { (length result.now ≤ length row.now) × (result.now ≡ take n row.now) }
+{
     &row[..n.min(row.len())]
 }
 
 // The same of a row that is written.
-pub fn up_to_mut<T>(n: usize, row: &mut [T]) -> &mut [T] {
+pub fn up_to_mut<T>(n: usize, row: &mut [T]) -> &mut [T]
+    ensures { (length result.now ≤ length row.old) × (result.now ≡ take n row.old) }
+{
     let most = row.len();
     &mut row[..n.min(most)]
 }
