@@ -2,6 +2,7 @@
 #![tactic(auto)]
 
 use residue::Residue;
+use show::Quiet;
 use std::{fmt, io};
 
 // What the call answers.
@@ -225,10 +226,14 @@ fn orders(rt: &impl Print) -> io::Result<()> {
     )
 }
 
-fn main(rt: HostRuntime) -> io::Result<()> {
-    rows(&rt)?;
-    lighter(&rt)?;
-    widths(&rt)?;
-    sides(&rt)?;
-    orders(&rt)
+fn all(rt: &impl Print) -> io::Result<()> {
+    rows(rt)?;
+    lighter(rt)?;
+    widths(rt)?;
+    sides(rt)?;
+    orders(rt)
+}
+
+fn main(rt: HostRuntime) {
+    let _ = all(&Quiet(&rt));
 }

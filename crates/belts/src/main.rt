@@ -4,6 +4,7 @@
 
 use belt::Belt;
 use command::Command;
+use show::Quiet;
 use std::fmt::InlineText;
 use std::fs::File;
 use std::io;
@@ -44,23 +45,27 @@ fn run(rt: &impl Print, from: &mut impl Read) -> io::Result<()> {
 }
 
 // Carries out file n, and says whether there is one.
-fn one(rt: &(impl Print + Files), n: u8) -> io::Result<bool> {
+fn one(rt: &impl Files, out: &impl Print, n: u8) -> io::Result<bool> {
     let name = InlineText::<4>::of(format_args!("b{n:03}"));
     let Ok(mut from) = File::open(rt, name.as_str()) else {
         return Ok(false);
     };
-    run(rt, &mut from)?;
+    run(out, &mut from)?;
     Ok(true)
 }
 
-fn main(rt: HostRuntime) -> io::Result<()> {
+fn all(rt: &HostRuntime, out: &impl Print) -> io::Result<()> {
     for n in 0..255 {
-        if !one(&rt, n)? {
+        if !one(rt, out, n)? {
             if n == 0 {
-                run(&rt, &mut rt.stdin())?;
+                run(out, &mut rt.stdin())?;
             }
             break;
         }
     }
     Ok(())
+}
+
+fn main(rt: HostRuntime) {
+    let _ = all(&rt, &Quiet(&rt));
 }

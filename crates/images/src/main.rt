@@ -3,6 +3,7 @@
 
 use morph::Kind;
 use plan::{Plan, Stage};
+use show::Quiet;
 use std::io;
 
 mod rates; // rates.rt: case 12
@@ -22,10 +23,14 @@ fn single(left: u8, right: u8, up: u8, down: u8) -> Plan {
     p
 }
 
-fn main(rt: HostRuntime) -> io::Result<()> {
-    starts::of_extents(&rt)?;
-    starts::of_sizes(&rt)?;
-    starts::of_counts(&rt)?;
-    starts::of_needs(&rt)?;
-    rates::case_12(&rt)
+fn all(rt: &impl Print) -> io::Result<()> {
+    starts::of_extents(rt)?;
+    starts::of_sizes(rt)?;
+    starts::of_counts(rt)?;
+    starts::of_needs(rt)?;
+    rates::case_12(rt)
+}
+
+fn main(rt: HostRuntime) {
+    let _ = all(&Quiet(&rt));
 }

@@ -31,17 +31,17 @@ fn started(head: &Head, starts: &mut [u8], lengths: &mut [u8]) -> Started {
 }
 
 // A start, and its line.
-pub fn begin(rt: &(impl Print + Input), head: &Head) -> io::Result<()> {
+pub fn begin(rt: &impl Input, to: &impl Print, head: &Head) -> io::Result<()> {
     let mut starts = [0u8; 4096];
     let mut lengths = [0u8; 4096];
     let starts = input::slice(rt, head.lent(7), &mut starts);
     let lengths = input::slice(rt, head.lent(8), &mut lengths);
     let r = started(head, starts, lengths);
-    print!(rt; "start: {}{}", r.number, Whole(r.state))?;
-    print!(rt; "; starts{}; lengths{}", Row(starts), Row(lengths))
+    print!(to; "start: {}{}", r.number, Whole(r.state))?;
+    print!(to; "; starts{}; lengths{}", Row(starts), Row(lengths))
 }
 
-pub fn end(rt: &impl Print, head: &Head) -> io::Result<()> {
+pub fn end(to: &impl Print, head: &Head) -> io::Result<()> {
     let r = picture::stop(head.state());
-    print!(rt; "stop: {}{}", r.number, Whole(r.state))
+    print!(to; "stop: {}{}", r.number, Whole(r.state))
 }

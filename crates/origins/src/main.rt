@@ -16,6 +16,7 @@
 #![tactic(auto)]
 
 use head::Head;
+use show::Quiet;
 use std::io;
 use std::io::Read;
 
@@ -27,32 +28,36 @@ mod steps; // steps.rt: steps on pictures of either kind
 mod told; // told.rt: what is told after a call
 
 // A command, by its group.
-fn called(rt: &(impl Print + Input), head: &Head) -> io::Result<()> {
+fn called(rt: &impl Input, to: &impl Print, head: &Head) -> io::Result<()> {
     match head.command() / 16 {
-        1 => steps::grey(rt, head),
-        2 => steps::rate(rt, head),
-        3 => begin::begin(rt, head),
-        4 => begin::end(rt, head),
-        _ => told::words(rt, head),
+        1 => steps::grey(rt, to, head),
+        2 => steps::rate(rt, to, head),
+        3 => begin::begin(rt, to, head),
+        4 => begin::end(to, head),
+        _ => told::words(rt, to, head),
     }
 }
 
 // Carries out the next command, and says whether there is one.
-fn one(rt: &(impl Print + Input)) -> io::Result<bool> {
+fn one(rt: &impl Input, to: &impl Print) -> io::Result<bool> {
     let mut head = [0; 188];
     if rt.reader().read_exact(&mut head).is_err() {
         return Ok(false);
     }
-    called(rt, &Head(head))?;
-    println!(rt; "")?;
+    called(rt, to, &Head(head))?;
+    println!(to; "")?;
     Ok(true)
 }
 
-fn main(rt: HostRuntime) -> io::Result<()> {
+fn all(rt: &impl Input, to: &impl Print) -> io::Result<()> {
     for _ in 0..u32::MAX {
-        if !one(&rt)? {
+        if !one(rt, to)? {
             break;
         }
     }
     Ok(())
+}
+
+fn main(rt: HostRuntime) {
+    let _ = all(&rt, &Quiet(&rt));
 }

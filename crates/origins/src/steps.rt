@@ -116,7 +116,8 @@ impl<S: Pixel> Loan<'_, S> {
 
 // A step, and its line. There is room for the row, the output row and the cells' values; what a step is lent is read, slice after slice.
 fn step<S: Pixel>(
-    rt: &(impl Print + Input),
+    rt: &impl Input,
+    to: &impl Print,
     head: &Head,
     pixels: &mut [S],
     out: &mut [S],
@@ -141,22 +142,30 @@ fn step<S: Pixel>(
     };
     let call = Call::from(head.command());
     let s = loan.call(call, head.state());
-    print!(rt;
+    print!(to;
         "{} {call}: {}{}",
         S::name(),
         Told(s.answer),
         Whole(s.state)
     )?;
-    loan.tell(rt)
+    loan.tell(to)
 }
 
-pub fn grey(rt: &(impl Print + Input), head: &Head) -> io::Result<()> {
-    step(rt, head, &mut [0u8; 4096], &mut [0; 4096], &mut [0; 4096])
-}
-
-pub fn rate(rt: &(impl Print + Input), head: &Head) -> io::Result<()> {
+pub fn grey(rt: &impl Input, to: &impl Print, head: &Head) -> io::Result<()> {
     step(
         rt,
+        to,
+        head,
+        &mut [0u8; 4096],
+        &mut [0; 4096],
+        &mut [0; 4096],
+    )
+}
+
+pub fn rate(rt: &impl Input, to: &impl Print, head: &Head) -> io::Result<()> {
+    step(
+        rt,
+        to,
         head,
         &mut [0.0f32; 4096],
         &mut [0.0; 4096],

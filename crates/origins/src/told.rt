@@ -16,7 +16,7 @@ impl fmt::Display for Whole {
 }
 
 // Words for the reader.
-pub fn words(rt: &(impl Print + Input), head: &Head) -> io::Result<()> {
+pub fn words(rt: &impl Input, to: &impl Print, head: &Head) -> io::Result<()> {
     let mut room = [0u8; 4096];
-    rt.write_all(input::slice(rt, head.lent(0), &mut room))
+    to.write_all(input::slice(rt, head.lent(0), &mut room))
 }

@@ -2,7 +2,7 @@
 #![tactic(auto)]
 
 use picture::{Lent, State};
-use show::{Row, Told};
+use show::{Quiet, Row, Told};
 use std::io;
 
 // A run over a picture of grey bytes, and its output row.
@@ -240,8 +240,12 @@ fn records(rt: &impl Print) -> io::Result<()> {
     r.read(rt, [7, 2, 9])
 }
 
-fn main(rt: HostRuntime) -> io::Result<()> {
-    three_stages(&rt)?;
-    other_states(&rt)?;
-    records(&rt)
+fn all(rt: &impl Print) -> io::Result<()> {
+    three_stages(rt)?;
+    other_states(rt)?;
+    records(rt)
+}
+
+fn main(rt: HostRuntime) {
+    let _ = all(&Quiet(&rt));
 }

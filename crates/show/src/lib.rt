@@ -1,9 +1,42 @@
 // How the test programs write: samples and rows of them, what a call answers, and a state. Each is a value that is printed with `{}`.
 #![tactic(auto)]
 
+ghost use Rattle.std.specs.Prelude.{IsOk};
+
 use picture::{Answer, Ending, Started, State};
 use plan_record::{Plan, Stage};
-use std::fmt;
+use std::{fmt, io};
+
+// ---- where to
+
+// Writes as far as that goes: what cannot be written is let go, and the program goes on to its end, whoever hears it.
+#[derive(Clone, Copy)]
+pub struct Quiet<'a, P>(pub &'a P);
+
+impl<P: Print> Print for Quiet<'_, P> {
+    fn print<D: fmt::Display + Drop>(&self, value: D) -> io::Result<()>
+        ensures { IsOk result }
+    {
+        let _ = self.0.print(value);
+        Ok(())
+    }
+
+    fn println<D: fmt::Display + Drop>(&self, value: D) -> io::Result<()>
+        ensures { IsOk result }
+    {
+        let _ = self.0.println(value);
+        Ok(())
+    }
+
+    fn write_all(&self, bytes: &[u8]) -> io::Result<()>
+        ensures { IsOk result }
+    {
+        let _ = self.0.write_all(bytes);
+        Ok(())
+    }
+}
+
+// ---- what
 
 // What is told of a sample, a position or a number.
 pub trait Shown: Copy {

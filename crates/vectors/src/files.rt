@@ -6,12 +6,17 @@ use std::io::Read;
 use std::rt::Files;
 
 // Opens file n of a letter and writes its name; nothing where there is none.
-pub fn open<R: Print + Files>(rt: &R, letter: char, n: u8) -> io::Result<Option<R::File>> {
+pub fn open<R: Files>(
+    rt: &R,
+    out: &impl Print,
+    letter: char,
+    n: u8,
+) -> io::Result<Option<R::File>> {
     let name = InlineText::<4>::of(format_args!("{letter}{n:03}"));
     let Ok(from) = File::open(rt, name.as_str()) else {
         return Ok(None);
     };
-    print!(rt; "{}", name.as_str())?;
+    print!(out; "{}", name.as_str())?;
     Ok(Some(from))
 }
 

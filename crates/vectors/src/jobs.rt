@@ -4,19 +4,19 @@ use program::{input_of, standard_output};
 use std::io;
 
 // Runs job n, and says whether there is one. What the run comes to is in its answer.
-fn one(rt: &HostRuntime, n: u8) -> io::Result<bool> {
-    let Some(from) = files::open(rt, 'j', n)? else {
+fn one(rt: &HostRuntime, out: &impl Print, n: u8) -> io::Result<bool> {
+    let Some(from) = files::open(rt, out, 'j', n)? else {
         return Ok(false);
     };
-    println!(rt; "")?;
+    println!(out; "")?;
     let _ = program::run(rt, input_of(from), standard_output(rt));
-    println!(rt; "")?;
+    println!(out; "")?;
     Ok(true)
 }
 
-pub fn all(rt: &HostRuntime) -> io::Result<()> {
+pub fn all(rt: &HostRuntime, out: &impl Print) -> io::Result<()> {
     for n in 0..255 {
-        if !one(rt, n)? {
+        if !one(rt, out, n)? {
             break;
         }
     }

@@ -45,25 +45,25 @@ fn drains<S: Pixel>(rt: &impl Print, l: &mut Line<S>) -> io::Result<()> {
 }
 
 // Runs line n, and says whether there is one.
-fn one<S: Pixel>(rt: &(impl Print + Files), n: u8) -> io::Result<bool> {
-    let Some(mut from) = files::open(rt, S::letter(), n)? else {
+fn one<S: Pixel>(rt: &impl Files, out: &impl Print, n: u8) -> io::Result<bool> {
+    let Some(mut from) = files::open(rt, out, S::letter(), n)? else {
         return Ok(false);
     };
-    print!(rt; ":")?;
+    print!(out; ":")?;
     let [kind, left, right, low, high] = files::bytes::<5>(&mut from);
     let pixels = u16::from_le_bytes([low, high]);
     let mut l = line::start::<S>(kind, left, right, usize::from(pixels)).line;
     for _ in 0..pixels {
-        read(rt, &mut l, S::next(&mut from))?;
+        read(out, &mut l, S::next(&mut from))?;
     }
-    drains(rt, &mut l)?;
-    println!(rt; "")?;
+    drains(out, &mut l)?;
+    println!(out; "")?;
     Ok(true)
 }
 
-pub fn all<S: Pixel>(rt: &(impl Print + Files)) -> io::Result<()> {
+pub fn all<S: Pixel>(rt: &impl Files, out: &impl Print) -> io::Result<()> {
     for n in 0..255 {
-        if !one::<S>(rt, n)? {
+        if !one::<S>(rt, out, n)? {
             break;
         }
     }

@@ -2,6 +2,7 @@
 // compared with the file stdout.
 #![tactic(auto)]
 
+use show::Quiet;
 use std::io;
 
 mod files; // files.rt: the files of data/
@@ -11,19 +12,23 @@ mod kind; // kind.rt: the two kinds of sample
 mod lines; // lines.rt: whole lines
 mod steps; // steps.rt: lines step by step
 
-fn main(rt: HostRuntime) -> io::Result<()> {
-    steps::starts::<u8>(&rt)?;
-    steps::line_p(&rt)?;
-    steps::out_of_turn(&rt)?;
-    steps::starts::<f32>(&rt)?;
-    steps::case_12(&rt)?;
-    steps::zeros(&rt)?;
-    firm::rows(&rt)?;
-    firm::refusals(&rt)?;
-    println!(rt; "lines")?;
-    lines::all::<u8>(&rt)?;
-    lines::longest(&rt)?;
-    lines::all::<f32>(&rt)?;
-    println!(rt; "jobs")?;
-    jobs::all(&rt)
+fn all(rt: &HostRuntime, out: &impl Print) -> io::Result<()> {
+    steps::starts::<u8>(out)?;
+    steps::line_p(out)?;
+    steps::out_of_turn(out)?;
+    steps::starts::<f32>(out)?;
+    steps::case_12(out)?;
+    steps::zeros(out)?;
+    firm::rows(out)?;
+    firm::refusals(out)?;
+    println!(out; "lines")?;
+    lines::all::<u8>(rt, out)?;
+    lines::longest(out)?;
+    lines::all::<f32>(rt, out)?;
+    println!(out; "jobs")?;
+    jobs::all(rt, out)
+}
+
+fn main(rt: HostRuntime) {
+    let _ = all(&rt, &Quiet(&rt));
 }
