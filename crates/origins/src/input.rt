@@ -1,4 +1,6 @@
 // What follows a head: the slices that a call is lent, one after the other.
+ghost use Rattle.std.specs.Prelude.{◌≤◌, length};
+
 use script::up_to_mut;
 use std::io::Read;
 
@@ -45,7 +47,9 @@ impl Piece for f32 {
 }
 
 // The next slice. It comes to the start of its room, as far as there is room, and is what is lent.
-pub fn slice<'a, T: Piece>(rt: &impl Input, count: usize, room: &'a mut [T]) -> &'a mut [T] {
+pub fn slice<'a, T: Piece>(rt: &impl Input, count: usize, room: &'a mut [T]) -> &'a mut [T]
+    ensures { length result.now ≤ length room.old }
+{
     let part = up_to_mut(count, room);
     T::fill(rt, part);
     part
