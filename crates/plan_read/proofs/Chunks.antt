@@ -1,7 +1,7 @@
 -- Stages of five bytes each, cut out of bytes one after another.
 use mathlib.Core.Path.{◌≡◌, sym, ap, ◌∙◌}
 use mathlib.Core.List.{List, [], ◌∷◌}
-use Prim.Native.Nat.{ℕ, zero, suc, ◌+◌, ◌*◌, ◌≤◌, ◌<◌}
+use Prim.Native.Nat.{ℕ, zero, suc, ◌+◌, ◌*◌, ◌/◌, ◌≤◌, ◌<◌}
 use native.Mathlib.Nat.{not-suc-le-zero, zero-mul, suc-mul, add-zero, add_comm}
 use native.Mathlib.Omega.{arith}
 use lib.ListN.{length, get_or, take, drop}
@@ -50,3 +50,8 @@ module _ (bytes : List ℕ) (count : ℕ) (k : ℕ) (enough : count ≤ k) (cut 
   pub plan_cut : plan_given apart ≡ plan_read count bytes
   unfolding plan_given plan_read
   plan_cut = cc (stages_cut, numbers_cut)
+
+-- the stages that bytes are cut into are read as the bytes
+pub plan_of_cut : (bytes : List ℕ) (count : ℕ) (stages : List (List ℕ)) → stages ≡ first_chunks 5 (length bytes / 5) bytes → length stages ≡ length bytes / 5 → count ≤ length bytes / 5
+    → plan_given (take count stages) ≡ plan_read count bytes
+plan_of_cut bytes count stages e l m = ap (λ s. plan_given (take count s)) e ∙ plan_cut bytes count (length bytes / 5) m (sym (ap length e) ∙ l)

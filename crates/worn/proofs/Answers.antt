@@ -7,10 +7,6 @@ use native.Mathlib.Omega.{arith}
 use borrow.Author.Tests.{le-leb, lt-leb, leb-false, eqb-true, eq-eqb, ne_eqb, not-false}
 use lib.Dec.{eqb, ltb, leb}
 use lib.ListN.{length}
-use Rattle.std.specs.Prelude.{Result, Ok, Err}
-use Rattle.std.specs.Result.{IsErrAnd}
-use Rattle.morph.specs.declared.refusal.Refusal.{Refusal}
-use Rattle.morph.specs.Refusals.{refusal_number}
 use Rattle.morph.specs.Numbers.{given, first_of}
 use Rattle.morph.proofs.Lists.{split, neither}
 use Rattle.morph.proofs.Numbers.{first_one, first_zero, given_zero}
@@ -24,7 +20,7 @@ use Rattle.worn.specs.declared.Begun.{Begun}
 use Rattle.worn.specs.declared.Asked.{Asked}
 use Rattle.worn.specs.Worn.{first_question, over_limit, say_of, is_broken_of, question_with, worn_said, pair_number, question_after, begun_of, WornStart, asked_of, WornPair}
 use Rattle.worn.specs.Runs.{Bytes}
-use Rattle.worn.specs.Inner.{Awaits, asked_as}
+use Rattle.worn.specs.Inner.{Awaits}
 use Rattle.worn.proofs.Sound.{sound, room, row_taken}
 
 -- ---- a start
