@@ -51,7 +51,7 @@ module _ (bytes : List ℕ) (count : ℕ) (k : ℕ) (enough : count ≤ k) (cut 
   unfolding plan_given plan_read
   plan_cut = cc (stages_cut, numbers_cut)
 
--- the stages that bytes are cut into are read as the bytes
+-- the plan of the stages that bytes are cut into is the plan that the bytes say
 pub plan_of_cut : (bytes : List ℕ) (count : ℕ) (stages : List (List ℕ)) → stages ≡ first_chunks 5 (length bytes / 5) bytes → length stages ≡ length bytes / 5 → count ≤ length bytes / 5
     → plan_given (take count stages) ≡ plan_read count bytes
 plan_of_cut bytes count stages e l m = ap (λ s. plan_given (take count s)) e ∙ plan_cut bytes count (length bytes / 5) m (sym (ap length e) ∙ l)

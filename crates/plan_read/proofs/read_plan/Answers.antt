@@ -1,4 +1,4 @@
--- The count, then the stages that the bytes are cut into, in whatever array they stand.
+-- The count, then the stages that the bytes are cut into. `set-get_or` is for a copy of the bytes that is put byte by byte: the code makes none, but the edit `read_places` does, and with the right bytes in it that copy has to prove.
 use mathlib.Core.Path.{◌≡◌, sym, ap, ◌∙◌}
 use Prim.Native.Nat.{ℕ}
 use lib.ListN.{take}
